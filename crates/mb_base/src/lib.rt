@@ -1,0 +1,12 @@
+//! The small types that every crate speaks of: ids, values, keys, sides, fuel and its refusals.
+#![tactic(auto)]
+
+mod fuel;
+mod value;
+
+pub use fuel::{Fuel, Spent};
+pub use value::{Key, NodeId, ObjId, ScopeId, Side, StrId, Value};
+
+/// Memory was wanted and wasn't there. It is the one refusal without a cause in a contract.
+#[derive(Clone, Copy, Debug, PartialEq, Eq)]
+pub struct NoMemory;

@@ -1,0 +1,9 @@
+pub mod ExitCode
+pub mod Form
+pub mod Lines
+pub mod Literals
+pub mod Outcome
+pub mod Output
+pub mod Settings
+pub mod Standing
+pub mod Whole

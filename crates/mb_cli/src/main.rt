@@ -1,0 +1,91 @@
+//! `membrane`: runs two scripts, each on a side of its own, and prints what they print.
+#![tactic(auto)]
+
+mod command;
+mod lines;
+mod puts;
+mod script;
+mod status;
+#[cfg(test)]
+mod tests;
+mod whole;
+mod words;
+mod world;
+
+pub use command::serve;
+use mb_base::Side;
+use mb_outer::{FileLibrary, WriteSink};
+pub use script::literals_are_unique;
+pub use status::{ScriptKind, Status, WordsKind};
+use std::process::ExitCode;
+use thiserror::Error;
+pub use world::World;
+
+// What a status that isn't an end of a run says on standard error.
+#[derive(Debug, Drop, Error)]
+enum Complaint {
+    #[error("membrane: words: usage")]
+    Usage,
+    #[error("membrane: read failed")]
+    ReadFault,
+    #[error("membrane: write failed")]
+    WriteFault,
+    #[error("membrane: left: shape")]
+    LeftShape,
+    #[error("membrane: right: shape")]
+    RightShape,
+    #[error("membrane: no memory")]
+    NoMemory,
+}
+
+// The complaint of a status, where it has one.
+fn complaint_of(status: Status) -> Option<Complaint> {
+    match status {
+        Status::Done => None,
+        Status::BadWords(WordsKind::Usage) => Some(Complaint::Usage),
+        Status::ReadFault => Some(Complaint::ReadFault),
+        Status::WriteFault => Some(Complaint::WriteFault),
+        Status::BadScript {
+            side: Side::Left,
+            kind: ScriptKind::Shape,
+        } => Some(Complaint::LeftShape),
+        Status::BadScript {
+            side: Side::Right,
+            kind: ScriptKind::Shape,
+        } => Some(Complaint::RightShape),
+        Status::NoMemory => Some(Complaint::NoMemory),
+    }
+}
+
+// The words behind the program's name.
+fn words_of(rt: &HostRuntime) -> Result<Vec<String>, Status> {
+    match std::env::args(rt) {
+        Ok(all) => all
+            .skip(1)
+            .collect(rt.alloc())
+            .map_err(|_| Status::NoMemory),
+        Err(_) => Err(Status::BadWords(WordsKind::Usage)),
+    }
+}
+
+fn served(rt: &HostRuntime) -> Status {
+    let words = match words_of(rt) {
+        Ok(words) => words,
+        Err(status) => return status,
+    };
+    let mut world = match World::new(rt.alloc()) {
+        Ok(world) => world,
+        Err(_) => return Status::NoMemory,
+    };
+    let mut library = FileLibrary::new(rt);
+    let mut sink = WriteSink::new(std::io::writer(rt));
+    serve(rt.alloc(), &words, &mut library, &mut sink, &mut world)
+}
+
+fn main(rt: HostRuntime) -> ExitCode {
+    let status = served(&rt);
+    if let Some(complaint) = complaint_of(status) {
+        let _ = eprintln!(rt; "{complaint}");
+    }
+    ExitCode::from(status.code())
+}

@@ -1,0 +1,8 @@
+pub mod Causes
+pub mod Counts
+pub mod FileState
+pub mod Place
+pub mod Shelf
+pub mod ShelfState
+pub mod SinkState
+pub mod WriteState

@@ -1,0 +1,4 @@
+pub mod Indices
+pub mod Plain
+mod Tables
+pub mod WithText

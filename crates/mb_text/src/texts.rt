@@ -1,0 +1,186 @@
+// The table of texts.
+ghost use Rattle.std.specs.Prelude.{◌≡◌, ℕ, List, [], ◌++◌, ◌<◌, ◌↔◌, length, map, slice_get, is_some, Some, IfSome, IfOk, OnOk, OnErr};
+ghost use Rattle.std.specs.Fmt.{signed_decimal};
+ghost use Rattle.mb_text.specs.Index.{index_of};
+ghost use Rattle.mb_text.specs.Texts.{has_text, text_at, with_text, AreDistinct};
+
+use crate::index::array_index;
+use indexmap::IndexSet;
+use mb_base::{Key, NoMemory, StrId};
+use std::alloc::{AllocError, Global};
+use std::marker::Model;
+
+/// The most units that a text may have.
+pub const LONGEST: usize = 1_048_576;
+
+// The most texts that a table may hold: each has its place as a `u32`.
+const MOST: usize = 1 << 32;
+
+/// Why a text wasn't taken: it has more than `LONGEST` units, or memory was wanted and wasn't there.
+#[derive(Clone, Copy, Debug, PartialEq, Eq)]
+pub enum TextFault {
+    Long,
+    NoMemory,
+}
+
+impl From<NoMemory> for TextFault {
+    ghost use Rattle.std.specs.Prelude.{◌≡◌};
+    ghost use Rattle.mb_text.specs.declared.texts.TextFault.{TextFault};
+
+    ghost from_gives = { λ _ fault. fault ≡ TextFault.NoMemory };
+
+    fn from(_: NoMemory) -> TextFault {
+        TextFault::NoMemory
+    }
+}
+
+/// Texts of UTF-16 code units (ECMA-262, 6.1.4), each once. Contracts see the list of the texts, in the order in
+/// which they came, and the id of a text is its place in that list.
+#[derive(Drop)]
+pub struct Texts {
+    set: IndexSet<Vec<u16>>,
+}
+
+impl Model for Texts {
+    ghost use Rattle.std.specs.Prelude.{List, ℕ, ◌^◌, ◌≤◌, length};
+
+    ghost Value = { List (List ℕ) };
+
+    ghost use Rattle.mb_text.specs.Texts.{AreDistinct, texts_of};
+
+    ghost view = { λ s. texts_of s.set.keys };
+
+    ghost invariant = { λ s. (length s.set.keys ≤ 2 ^ 32) × AreDistinct (texts_of s.set.keys) };
+}
+
+impl Texts {
+    pub fn new(alloc: Global) -> Texts
+        ensures { result ≡ [] }
+    {
+        Texts {
+            set: IndexSet::new(alloc),
+        }
+    }
+
+    /// The id of the text of these units, which is added as the last where it isn't there yet.
+    /// The time is expected to be linear in the units.
+    pub fn intern(&mut self, units: &[u16]) -> Result<StrId, TextFault>
+        ensures text { IfOk result (λ id. slice_get self.new id.0 ≡ Some units.now) }
+        ensures texts { OnOk result (self.new ≡ with_text self.old units.now) }
+        ensures long { (result ≡ Err TextFault.Long) ↔ (LONGEST < length units.now) }
+        ensures kept { OnErr result (self.new ≡ self.old) }
+        ensures distinct { AreDistinct self.new }
+    {
+        let alloc = *self.set.allocator();
+        if units.len() > LONGEST {
+            return Err(TextFault::Long);
+        }
+        if let Some(id) = self.find(units) {
+            return Ok(id);
+        }
+        let text = units.to_vec(alloc).map_err(|_| NoMemory)?;
+        Ok(self.add(text)?)
+    }
+
+    /// The id of the text of one text and another behind it.
+    pub fn join(&mut self, a: StrId, b: StrId) -> Result<StrId, TextFault>
+        requires first { a.0 < length self.old }
+        requires second { b.0 < length self.old }
+        ensures text { IfOk result (λ id. slice_get self.new id.0 ≡ Some (text_at self.old a ++ text_at self.old b)) }
+        ensures texts { OnOk result (self.new ≡ with_text self.old (text_at self.old a ++ text_at self.old b)) }
+        ensures long { (result ≡ Err TextFault.Long) ↔ (LONGEST < length (text_at self.old a ++ text_at self.old b)) }
+        ensures kept { OnErr result (self.new ≡ self.old) }
+        ensures distinct { AreDistinct self.new }
+    {
+        let alloc = *self.set.allocator();
+        let first = self.units(a);
+        let second = self.units(b);
+        if first.len() + second.len() > LONGEST {
+            return Err(TextFault::Long);
+        }
+        let text = joined(alloc, first, second).map_err(|_| NoMemory)?;
+        Ok(self.add(text)?)
+    }
+
+    /// The id of the decimal text of a whole number.
+    pub fn of_whole(&mut self, n: i64) -> Result<StrId, NoMemory>
+        ensures text { IfOk result (λ id. slice_get self.new id.0 ≡ Some (signed_decimal n)) }
+        ensures texts { OnOk result (self.new ≡ with_text self.old (signed_decimal n)) }
+        ensures kept { OnErr result (self.new ≡ self.old) }
+        ensures distinct { AreDistinct self.new }
+    {
+        let alloc = *self.set.allocator();
+        let text = n.to_string(alloc).map_err(|_| NoMemory)?;
+        let units = widened(alloc, text.as_bytes()).map_err(|_| NoMemory)?;
+        self.add(units)
+    }
+
+    /// The units of a text of this table.
+    pub fn units(&self, id: StrId) -> &[u16]
+        requires { id.0 < length self.now }
+        ensures text { slice_get self.now id.0 ≡ Some result.now }
+        ensures distinct { AreDistinct self.now }
+    {
+        self.set.as_slice()[id.0 as usize].as_slice()
+    }
+
+    /// The text as a property key, with the array index that it spells (ECMA-262, 6.1.7), or `u32::MAX` for none.
+    pub fn key(&self, id: StrId) -> Key
+        requires { id.0 < length self.now }
+        ensures text { result.text ≡ id }
+        ensures index { result.index ≡ index_of (text_at self.now id) }
+    {
+        Key {
+            text: id,
+            index: array_index(self.units(id)),
+        }
+    }
+
+    // The id of a text that is there.
+    fn find(&self, units: &[u16]) -> Option<StrId>
+        ensures text { IfSome result (λ id. slice_get self.now id.0 ≡ Some units.now) }
+        ensures found { is_some result ≡ has_text self.now units.now }
+    {
+        match self.set.get_full(units) {
+            Some((place, _)) => Some(StrId(place as u32)),
+            None => None,
+        }
+    }
+
+    // The id of a text of any length, which is added as the last where it isn't there yet.
+    fn add(&mut self, text: Vec<u16>) -> Result<StrId, NoMemory>
+        ensures text { IfOk result (λ id. slice_get self.new id.0 ≡ Some text.items) }
+        ensures texts { OnOk result (self.new ≡ with_text self.old text.items) }
+        ensures kept { OnErr result (self.new ≡ self.old) }
+        ensures distinct { AreDistinct self.new }
+    {
+        if self.set.len() == MOST {
+            return self.find(&text).ok_or(NoMemory);
+        }
+        match self.set.insert_full(text) {
+            Ok((place, _)) => Ok(StrId(place as u32)),
+            Err(_) => Err(NoMemory),
+        }
+    }
+}
+
+/// The law of ids: in a table where no text stands twice, equal texts have equal ids.
+pub fn equal_texts_have_equal_ids()
+    ensures { (texts : List (List ℕ)) (i j : ℕ) (text : List ℕ) → AreDistinct texts → slice_get texts i ≡ Some text → slice_get texts j ≡ Some text → i ≡ j }
+{}
+
+// One text and another behind it.
+fn joined(alloc: Global, first: &[u16], second: &[u16]) -> Result<Vec<u16>, AllocError>
+    ensures { IfOk result (λ text. text.items ≡ first.now ++ second.now) }
+{
+    let mut text = first.to_vec(alloc)?;
+    text.extend_from_slice(second)?;
+    Ok(text)
+}
+
+// The units of a text of ASCII.
+fn widened(alloc: Global, bytes: &[u8]) -> Result<Vec<u16>, AllocError>
+    ensures { IfOk result (λ units. units.items ≡ map (λ byte. byte) bytes.now) }
+{
+    bytes.iter().map(|byte| u16::from(*byte)).collect(alloc)
+}
