@@ -1,5 +1,10 @@
 pub mod Causes
 pub mod Meanings
+pub mod Numbers
 pub mod Pieces
+pub mod Progress
+pub mod Quoted
+pub mod Runs
 pub mod Statements
+pub mod Steps
 pub mod Texts

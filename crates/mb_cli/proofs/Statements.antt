@@ -2,12 +2,12 @@
 use Rattle.std.proofs.Common.{◌≡◌, ◌<◌, ◌+◌, ℕ, ◌++◌, List, [], ◌∷◌, length, map, append_assoc, sym, ap, ap₂, ◌∙◌, refl, arith, subst, false}
 use Rattle.std.specs.Prelude.{⊤}
 use Rattle.std.proofs.lemmas.List.{append-nil, length-map}
-use Rattle.mb_lexer.specs.declared.token.Token.{Token}
-use Rattle.mb_lexer.specs.declared.token.Token.TheVariants as t
-use Rattle.mb_lexer.specs.declared.token.Spanned.{Spanned}
-use Rattle.mb_lexer.specs.Lexemes.{Meaning, print, open_paren, close_paren, semicolon, whole, text, Lexeme, HasTokens}
-use Rattle.mb_lexer.specs.Meanings.{Means, AreRead}
-use Rattle.mb_lexer.proofs.Steps.{at_most_one}
+use Rattle.mb_cli.specs.declared.token.Token.{Token}
+use Rattle.mb_cli.specs.declared.token.Token.TheVariants as t
+use Rattle.mb_cli.specs.declared.token.Spanned.{Spanned}
+use Rattle.mb_cli.specs.Lexemes.{Meaning, print, open_paren, close_paren, semicolon, whole, text, Lexeme, HasTokens}
+use Rattle.mb_cli.specs.Meanings.{Means, AreRead}
+use Rattle.mb_cli.proofs.Steps.{at_most_one}
 use Rattle.mb_cli.specs.Form.{number, quoted, HasLiterals}
 use Rattle.mb_cli.specs.Form.{Literal as Meant}
 use Rattle.mb_cli.specs.Form.{token_of as meaning_of, statements_of as meanings_of}

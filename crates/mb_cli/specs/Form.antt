@@ -1,6 +1,6 @@
 -- The scripts of the first form: statements `print(LITERAL);`.
 use Rattle.std.specs.Prelude.{◌≡◌, ℕ, List, [], ◌∷◌, map}
-use Rattle.mb_lexer.specs.Lexemes.{Meaning, print, open_paren, close_paren, semicolon, whole, text, Lexeme, HasTokens}
+use Rattle.mb_cli.specs.Lexemes.{Meaning, print, open_paren, close_paren, semicolon, whole, text, Lexeme, HasTokens}
 
 -- a whole number, or a text by its units
 pub data Literal : Type 0 where

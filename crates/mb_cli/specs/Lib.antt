@@ -1,7 +1,9 @@
 pub mod ExitCode
 pub mod Form
+pub mod Lexemes
 pub mod Lines
 pub mod Literals
+pub mod Meanings
 pub mod Outcome
 pub mod Output
 pub mod Settings

@@ -1,8 +1,8 @@
 -- The literals of a script, as the code has them, and what they mean.
 use Rattle.std.specs.Prelude.{◌≡◌, List, [], ◌∷◌, ◌++◌, map, Some, slice_get, pos, ⊤, ℕ}
-use Rattle.mb_lexer.specs.declared.token.Token.{Token}
-use Rattle.mb_lexer.specs.declared.token.Token.TheVariants as t
-use Rattle.mb_lexer.specs.declared.token.Spanned.{Spanned}
+use Rattle.mb_cli.specs.declared.token.Token.{Token}
+use Rattle.mb_cli.specs.declared.token.Token.TheVariants as t
+use Rattle.mb_cli.specs.declared.token.Spanned.{Spanned}
 use Rattle.mb_cli.specs.Form.{number, quoted}
 use Rattle.mb_cli.specs.Form.{Literal as Meant}
 use Rattle.mb_cli.specs.declared.script.Literal.{Literal}

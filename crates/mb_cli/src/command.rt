@@ -2,8 +2,8 @@
 ghost use Rattle.std.specs.Prelude.{◌≡◌, ◌≢◌, ◌≤◌, ◌<◌, ◌+◌, ◌⊎◌, ◌↔◌, ◌++◌, ℕ, List, Option, Err, None, Some, IsSome, IsTrue, IfOk, IfErr, IfSome, MatchResult, true, false, length, map, string_bytes, vec_len};
 ghost use Rattle.std.specs.List.{concat};
 ghost use Rattle.mb_outer.specs.Causes.{Rose};
-ghost use Rattle.mb_outer.specs.Shelf.{Shelf, held};
-ghost use Rattle.mb_lexer.specs.Meanings.{KeepsIds};
+ghost use Rattle.mb_outer.specs.Shelf.{held};
+ghost use Rattle.mb_cli.specs.Meanings.{KeepsIds};
 ghost use Rattle.mb_cli.specs.Form.{Literal as Meant};
 ghost use Rattle.mb_cli.specs.Lines.{contents_of};
 ghost use Rattle.mb_cli.specs.Literals.{AreLiterals};

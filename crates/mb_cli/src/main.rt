@@ -3,11 +3,14 @@
 
 mod command;
 mod lines;
+mod number;
 mod puts;
+mod reading;
 mod script;
 mod status;
 #[cfg(test)]
 mod tests;
+mod token;
 mod whole;
 mod words;
 mod world;
@@ -15,8 +18,10 @@ mod world;
 pub use command::serve;
 use mb_base::Side;
 use mb_outer::{FileLibrary, WriteSink};
+pub use reading::tokens_are_unique;
 pub use script::literals_are_unique;
 pub use status::{ScriptKind, Status, WordsKind};
+use std::io::ErrorKind;
 use std::process::ExitCode;
 use thiserror::Error;
 pub use world::World;
@@ -64,6 +69,7 @@ fn words_of(rt: &HostRuntime) -> Result<Vec<String>, Status> {
             .skip(1)
             .collect(rt.alloc())
             .map_err(|_| Status::NoMemory),
+        Err(error) if error.kind() == ErrorKind::OutOfMemory => Err(Status::NoMemory),
         Err(_) => Err(Status::BadWords(WordsKind::Usage)),
     }
 }

@@ -1,13 +1,14 @@
 // Scripts of the first form.
-ghost use Rattle.std.specs.Prelude.{◌≡◌, ◌≤◌, ◌∷◌, ◌++◌, [], List, length, ℕ, map, IfOk, IfSome, IsNone, IsSome, None, Some, Err};
-ghost use Rattle.mb_lexer.specs.Meanings.{KeepsIds};
+ghost use Rattle.std.specs.Prelude.{◌≡◌, ◌≤◌, ◌++◌, List, length, ℕ, IfOk, IfSome, IsNone, None, Some, Err};
+ghost use Rattle.mb_cli.specs.Meanings.{KeepsIds};
 ghost use Rattle.mb_cli.specs.Form.{Literal as Meant, HasLiterals};
 ghost use Rattle.mb_cli.specs.Literals.{AreLiterals, statement_of, statements_of, tokens_of};
 
+use crate::reading::{LexFault, lex};
+use crate::token::{Spanned, Token};
 use mb_base::StrId;
-use mb_lexer::{LexFault, Spanned, Token, lex};
 use mb_text::Texts;
-use std::alloc::{AllocError, AllocFailed, Global};
+use std::alloc::{AllocError, Global};
 
 // What a statement prints. The id is of the texts that the script was read into.
 #[derive(Clone, Copy, Debug, PartialEq, Eq)]

@@ -1,2 +1,8 @@
-pub mod Lexemes
-pub mod Meanings
+pub mod Characters
+pub mod Strings
+pub mod Parts
+pub mod Tokens
+pub mod Reading
+pub mod Machine
+pub mod Answers
+pub mod Stretches

@@ -4,7 +4,7 @@ use Rattle.std.proofs.lemmas.List.{take_all}
 use Rattle.mb_cli.specs.Lines.{contents_of}
 use Rattle.mb_cli.specs.Output.{line_of}
 use Rattle.mb_cli.proofs.Meanings.{IsLiteral-kept, means_at, length-literals, on_line}
-use Rattle.mb_lexer.proofs.Progress.{KeepsIds-trans}
+use Rattle.mb_cli.proofs.Progress.{KeepsIds-trans}
 use Rattle.mb_cli.specs.declared.script.Literal.TheVariants.{Whole}
 use Rattle.mb_cli.proofs.lines.add_lines.Goals as goal
 

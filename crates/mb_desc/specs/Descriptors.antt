@@ -1,0 +1,45 @@
+-- Property descriptors (ECMA-262, 6.2.6).
+use Rattle.std.specs.Prelude.{◌≡◌, Bool, true, false, not, ◌&&◌, ◌||◌, is_some, unwrap_or, if◌then◌else◌}
+use Rattle.mb_desc.specs.declared.descriptor.Desc.{Desc}
+use Rattle.mb_desc.specs.declared.descriptor.Full.{Full}
+use Rattle.mb_desc.specs.declared.descriptor.Full.TheVariants.{Datum, Accessor}
+
+module _ {V : Type 0} where
+  -- IsAccessorDescriptor (6.2.6.1)
+  abbrev pub is_accessor_descriptor : Desc V → Bool
+  is_accessor_descriptor desc = is_some desc.get || is_some desc.set
+
+  -- IsDataDescriptor (6.2.6.2)
+  abbrev pub is_data_descriptor : Desc V → Bool
+  is_data_descriptor desc = is_some desc.value || is_some desc.writable
+
+  -- IsGenericDescriptor (6.2.6.3)
+  abbrev pub is_generic_descriptor : Desc V → Bool
+  is_generic_descriptor desc = not (is_accessor_descriptor desc) && not (is_data_descriptor desc)
+
+  -- no field is there
+  abbrev pub has_no_fields : Desc V → Bool
+  has_no_fields desc = is_generic_descriptor desc && not (is_some desc.enumerable) && not (is_some desc.configurable)
+
+  -- no descriptor has fields of both kinds (6.2.6)
+  abbrev pub IsOfOneKind : Desc V → Type 0
+  IsOfOneKind desc = is_data_descriptor desc && is_accessor_descriptor desc ≡ false
+
+  abbrev pub is_accessor_property : Full V → Bool
+  is_accessor_property (Datum value writable enumerable configurable) = false
+  is_accessor_property (Accessor get set enumerable configurable) = true
+
+  abbrev pub is_enumerable : Full V → Bool
+  is_enumerable (Datum value writable enumerable configurable) = enumerable
+  is_enumerable (Accessor get set enumerable configurable) = enumerable
+
+  abbrev pub is_configurable : Full V → Bool
+  is_configurable (Datum value writable enumerable configurable) = configurable
+  is_configurable (Accessor get set enumerable configurable) = configurable
+
+  -- CompletePropertyDescriptor (6.2.6.6): an absent field gets its default
+  abbrev pub Complete : (undefined : V) → Desc V → Full V
+  Complete undefined desc =
+      if is_accessor_descriptor desc
+      then Accessor (unwrap_or desc.get undefined) (unwrap_or desc.set undefined) (unwrap_or desc.enumerable false) (unwrap_or desc.configurable false)
+      else Datum (unwrap_or desc.value undefined) (unwrap_or desc.writable false) (unwrap_or desc.enumerable false) (unwrap_or desc.configurable false)

@@ -1,0 +1,4 @@
+pub mod Descriptors
+pub mod Validate
+pub mod Laws
+pub mod Values

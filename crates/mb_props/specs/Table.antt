@@ -1,0 +1,28 @@
+-- A table of properties: the pairs of key and property in order of creation.
+use Rattle.std.specs.Prelude.{Bool, ◌==◌, ◌&&◌, List, [], ◌∷◌, Option, if◌then◌else◌}
+use Rattle.std.specs.List.{IsDistinct}
+use Rattle.std.specs.Map.{keys_of, lookup, remove_entry}
+use Rattle.mb_base.specs.declared.value.Key.{Key}
+
+-- the two keys are the same
+abbrev pub same_key : Key → Key → Bool
+same_key a b = a.text.0 == b.text.0 && a.index == b.index
+
+module _ {P : Type 0} where
+  -- no key has two pairs
+  abbrev pub HasDistinctKeys : List (Key × P) → Type 0
+  HasDistinctKeys table = IsDistinct same_key (keys_of table)
+
+  -- the property of the key
+  abbrev pub found : List (Key × P) → Key → Option P
+  found table key = lookup (same_key key) table
+
+  -- the pairs after a put: a key that is there keeps its place and takes the property, and a new key goes last
+  abbrev pub insert_entry : List (Key × P) → Key → P → List (Key × P)
+  insert_entry [] key property = (key, property) ∷ []
+  insert_entry (pair ∷ table) key property =
+      if same_key key pair.0 then (pair.0, property) ∷ table else pair ∷ insert_entry table key property
+
+  -- the pairs without the key's, in the order of before
+  abbrev pub without : List (Key × P) → Key → List (Key × P)
+  without table key = remove_entry (same_key key) table
