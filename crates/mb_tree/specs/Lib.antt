@@ -1,0 +1,3 @@
+pub mod Roses
+pub mod Operands
+pub mod Heights

@@ -1,0 +1,51 @@
+ghost use Rattle.std.specs.Prelude.{◌≡◌, List, [], ◌∷◌, ◌++◌, IfOk};
+ghost use Rattle.mb_tree.specs.Roses.{bare, shape, shapes, write};
+ghost use Rattle.mb_tree.specs.Heights.{a_call};
+
+use super::*;
+use mb_base::NodeId;
+use std::alloc::{AllocError, Global};
+use std::test::Fail;
+
+// Adds a node without a name.
+fn add(alloc: Global, tree: &mut Tree, kind: Kind, children: &[NodeId]) -> Result<(), AllocError>
+    ensures { IfOk result (λ u. shapes tree.new ≡ shapes tree.old ++ shape (bare kind) children.now ∷ []) }
+{
+    let children = Vec::from_slice(alloc, children)?;
+    tree.nodes.push(Node {
+        kind,
+        name: None,
+        whole: 0,
+        children,
+    })?;
+    Ok(())
+}
+
+// The nodes of `this, this()`.
+fn a_call_behind_a_comma(alloc: Global) -> Result<Tree, AllocError>
+    ensures { IfOk result (λ t. shapes t ≡ write [] a_call) }
+{
+    let mut tree = Tree {
+        nodes: Vec::new(alloc),
+    };
+    add(alloc, &mut tree, Kind::This, &[])?;
+    add(alloc, &mut tree, Kind::This, &[])?;
+    add(alloc, &mut tree, Kind::Call, &[NodeId(1)])?;
+    add(alloc, &mut tree, Kind::Seq, &[NodeId(0), NodeId(2)])?;
+    Ok(tree)
+}
+
+#[test]
+fn a_height_is_the_longest_way(rt: HostRuntime) -> Result<(), Fail> {
+    let tree = a_call_behind_a_comma(rt.alloc())?;
+    assert_eq!(rt; tree.height(rt.alloc()), Ok(3));
+    Ok(())
+}
+
+#[test]
+fn no_node_has_height_zero(rt: HostRuntime) {
+    let tree = Tree {
+        nodes: Vec::new(rt.alloc()),
+    };
+    assert_eq!(rt; tree.height(rt.alloc()), Ok(0));
+}
