@@ -17,7 +17,7 @@ module _ {P : Type 0} where
   abbrev pub found : List (Key × P) → Key → Option P
   found table key = lookup (same_key key) table
 
-  -- the pairs after a put: a key that is there keeps its place and takes the property, and a new key goes last
+  -- the table once a property is put under a key
   abbrev pub insert_entry : List (Key × P) → Key → P → List (Key × P)
   insert_entry [] key property = (key, property) ∷ []
   insert_entry (pair ∷ table) key property =
