@@ -4,7 +4,7 @@ use Rattle.std.specs.Prelude.{Vec}
 use Rattle.std.specs.declared.alloc.Global.{Global}
 use Rattle.mb_base.specs.declared.value.Side.{Side}
 use Rattle.mb_base.specs.declared.value.Side.TheVariants.{Left, Right}
-use Rattle.mb_cli.specs.Meanings.{KeepsIds}
+use Rattle.mb_text.specs.Texts.{KeepsIds}
 use Rattle.mb_text.proofs.WithText.{slice_get-added}
 use Rattle.mb_cli.specs.Form.{number, quoted}
 use Rattle.mb_cli.specs.Form.{Literal as Meant}

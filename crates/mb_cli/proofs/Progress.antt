@@ -4,7 +4,8 @@ use Rattle.std.proofs.lemmas.Grind.{common_steps}
 use Rattle.std.proofs.lemmas.List.{append-nil, drop-drop, drop_all}
 use Rattle.mb_text.proofs.WithText.{slice_get-added}
 use Rattle.mb_cli.specs.Lexemes.{Meaning, print, open_paren, close_paren, semicolon, whole, text, is_gap, Stands, Lexeme, Lexes, HasTokens}
-use Rattle.mb_cli.specs.Meanings.{Means, IsRead, AreRead, KeepsIds}
+use Rattle.mb_text.specs.Texts.{KeepsIds}
+use Rattle.mb_cli.specs.Meanings.{Means, IsRead, AreRead}
 use Rattle.mb_cli.specs.declared.token.Token.{Token}
 use Rattle.mb_cli.specs.declared.token.Token.TheVariants as t
 use Rattle.mb_cli.specs.declared.token.Spanned.{Spanned}
@@ -41,8 +42,6 @@ AreRead-push texts [] [] read lexeme all one = (one, tt)
 AreRead-push texts (r ∷ reads) (l ∷ lexemes) read lexeme all one = (all.0, AreRead-push texts reads lexemes read lexeme all.1 one)
 AreRead-push texts reads lexemes read lexeme all one = absurd all
 
-pub KeepsIds-trans : (a b c : List (List ℕ)) → KeepsIds a b → KeepsIds b c → KeepsIds a c
-KeepsIds-trans a b c (more, e) (after, f) = (more ++ after, f ∙ ap (λ x. x ++ after) e ∙ append_assoc a more after)
 
 pub progress_start : (bytes : List ℕ) (texts : List (List ℕ)) → Progress bytes texts [] 0 false
 progress_start bytes texts = record { done = []; read = tt; on = λ ts l. l; back = λ all l. (all, refl, l) }

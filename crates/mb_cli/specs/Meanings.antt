@@ -1,5 +1,5 @@
 -- What the tokens that `lex` gives stand for.
-use Rattle.std.specs.Prelude.{◌≡◌, ℕ, List, [], ◌∷◌, ◌++◌, Some, slice_get, pos, ⊤}
+use Rattle.std.specs.Prelude.{◌≡◌, ℕ, List, [], ◌∷◌, Some, slice_get, pos, ⊤}
 use Rattle.mb_cli.specs.Lexemes.{Meaning, print, open_paren, close_paren, semicolon, whole, text, Lexeme}
 use Rattle.mb_cli.specs.declared.token.Token.{Token}
 use Rattle.mb_cli.specs.declared.token.Token.TheVariants as t
@@ -26,7 +26,3 @@ abbrev pub AreRead : List (List ℕ) → List Spanned → List Lexeme → Type 0
 AreRead texts [] [] = ⊤
 AreRead texts (read ∷ reads) (lexeme ∷ lexemes) = IsRead texts read lexeme × AreRead texts reads lexemes
 AreRead texts _ _ = ⊥
-
--- each id of before names its text still
-abbrev pub KeepsIds : List (List ℕ) → List (List ℕ) → Type 0
-KeepsIds before now = (more : List (List ℕ)) × (now ≡ before ++ more)

@@ -3,7 +3,7 @@ ghost use Rattle.std.specs.Prelude.{◌≡◌, ◌≢◌, ◌≤◌, ◌<◌, �
 ghost use Rattle.std.specs.List.{concat};
 ghost use Rattle.mb_outer.specs.Causes.{Rose};
 ghost use Rattle.mb_outer.specs.Shelf.{held};
-ghost use Rattle.mb_cli.specs.Meanings.{KeepsIds};
+ghost use Rattle.mb_text.specs.Texts.{KeepsIds};
 ghost use Rattle.mb_cli.specs.Form.{Literal as Meant};
 ghost use Rattle.mb_cli.specs.Lines.{contents_of};
 ghost use Rattle.mb_cli.specs.Literals.{AreLiterals};

@@ -1,6 +1,6 @@
 // The lines that scripts print.
 ghost use Rattle.std.specs.Prelude.{◌≡◌, ◌++◌, List, map, IfOk, OnOk, Some, slice_get};
-ghost use Rattle.mb_cli.specs.Meanings.{KeepsIds};
+ghost use Rattle.mb_text.specs.Texts.{KeepsIds};
 ghost use Rattle.mb_cli.specs.Form.{Literal as Meant};
 ghost use Rattle.mb_cli.specs.Literals.{IsLiteral, AreLiterals};
 ghost use Rattle.mb_cli.specs.Lines.{contents_of};

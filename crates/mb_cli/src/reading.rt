@@ -4,7 +4,8 @@ ghost use Rattle.mb_cli.specs.Lexemes.{Meaning, Lexeme, Stands, HasTokens};
 ghost use Rattle.mb_text.specs.Spelling.{is_plain as plain};
 ghost use Rattle.mb_cli.specs.Lexemes.{text};
 ghost use Rattle.std.specs.List.{prefix_len};
-ghost use Rattle.mb_cli.specs.Meanings.{Means, AreRead, KeepsIds};
+ghost use Rattle.mb_text.specs.Texts.{KeepsIds};
+ghost use Rattle.mb_cli.specs.Meanings.{Means, AreRead};
 
 use crate::number::number_at;
 use crate::token::{Spanned, Token};

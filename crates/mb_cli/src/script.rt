@@ -1,6 +1,6 @@
 // Scripts of the first form.
 ghost use Rattle.std.specs.Prelude.{◌≡◌, ◌≤◌, ◌++◌, List, length, ℕ, IfOk, IfSome, IsNone, None, Some, Err};
-ghost use Rattle.mb_cli.specs.Meanings.{KeepsIds};
+ghost use Rattle.mb_text.specs.Texts.{KeepsIds};
 ghost use Rattle.mb_cli.specs.Form.{Literal as Meant, HasLiterals};
 ghost use Rattle.mb_cli.specs.Literals.{AreLiterals, statement_of, statements_of, tokens_of};
 

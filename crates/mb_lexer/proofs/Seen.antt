@@ -3,11 +3,12 @@ use Rattle.std.proofs.Common.{◌≡◌, ℕ, List, [], ◌∷◌, ◌++◌, Res
 use Rattle.std.proofs.lemmas.List.{append-nil}
 use Rattle.std.proofs.lemmas.Result.{on_ok_weaker}
 use Rattle.std.specs.Prelude.{OnOk}
-use Rattle.mb_text.proofs.WithText.{slice_get-added, with_text-added}
-use Rattle.mb_text.specs.Texts.{with_text}
+use Rattle.mb_text.proofs.WithText.{slice_get-added}
+use Rattle.mb_text.specs.Texts.{KeepsIds}
 use Rattle.mb_token.specs.declared.token.Token.{Token}
 use Rattle.mb_token.specs.declared.token.Token.TheVariants.{Name, Soft, Reserved, Whole, Text, Mark}
 use Rattle.mb_token.specs.declared.token.Spanned.{Spanned}
+use Rattle.mb_text.proofs.Kept.{keeps_ids_none}
 use Rattle.mb_lexer.specs.Tokens.{Content, name, soft, reserved, whole, text, mark}
 use Rattle.mb_lexer.specs.Reading.{Lexeme}
 use Rattle.mb_token.specs.declared.mark.Mark.{Mark as MarkOf}
@@ -15,7 +16,7 @@ use Rattle.mb_token.specs.declared.mark.Mark.TheVariants.{Equal}
 use Rattle.mb_lexer.specs.declared.state.State.{State}
 use Rattle.mb_lexer.specs.declared.fault.LexFault.{LexFault}
 use Rattle.mb_lexer.specs.Machine.{Machine, lexeme, ended, first_of_two}
-use Rattle.mb_lexer.specs.Answers.{Shows, AreSeen, Extends, Gains, given}
+use Rattle.mb_lexer.specs.Answers.{Shows, AreSeen, Gains, given}
 
 shows_added : (texts more : List (List ℕ)) (token : Token) (t : Content) → Shows texts token t → Shows (texts ++ more) token t
 shows_added texts more (Name id) (name us) h = slice_get-added texts more id.0 us h
@@ -61,8 +62,8 @@ seen_added texts more (s ∷ ss) (t ∷ ts) h = (record { token = shows_added te
 seen_added texts more [] (t ∷ ts) h = absurd h
 seen_added texts more (s ∷ ss) [] h = absurd h
 
-pub seen_extends : (old new : List (List ℕ)) (tokens : List Spanned) (ts : List Lexeme) → Extends old new → AreSeen old tokens ts → AreSeen new tokens ts
-seen_extends old new tokens ts e h = rw e.1 (seen_added old e.0 tokens ts h)
+pub seen_kept : (old new : List (List ℕ)) (tokens : List Spanned) (ts : List Lexeme) → KeepsIds old new → AreSeen old tokens ts → AreSeen new tokens ts
+seen_kept old new tokens ts e h = rw e.1 (seen_added old e.0 tokens ts h)
 
 pub seen_append : (texts : List (List ℕ)) (tokens : List Spanned) (ts : List Lexeme) (more : List Spanned) (us : List Lexeme) → AreSeen texts tokens ts → AreSeen texts more us → AreSeen texts (tokens ++ more) (ts ++ us)
 seen_append texts [] [] more us h g = g
@@ -70,38 +71,26 @@ seen_append texts (s ∷ ss) (t ∷ ts) more us h g = (h.0, seen_append texts ss
 seen_append texts [] (t ∷ ts) more us h g = absurd h
 seen_append texts (s ∷ ss) [] more us h g = absurd h
 
-pub extends_none : (texts : List (List ℕ)) → Extends texts texts
-extends_none texts = ([], sym (append-nil texts))
-
-pub extends_same : (old new : List (List ℕ)) → new ≡ old → Extends old new
-extends_same old new e = ([], e ∙ sym (append-nil old))
-
-pub extends_more : (a b c : List (List ℕ)) → Extends a b → Extends b c → Extends a c
-extends_more a b c e f = (e.0 ++ f.0, f.1 ∙ ap (λ xs. xs ++ f.0) e.1 ∙ append_assoc a e.0 f.0)
-
-pub extends_text : (a b : List (List ℕ)) (t : List ℕ) → b ≡ with_text a t → Extends a b
-extends_text a b t e = let w = with_text-added a t in (w.0, e ∙ w.1)
-
 -- tokens at the end of others
-pub gains : (texts newer : List (List ℕ)) (old new more : List Spanned) (ts : List Lexeme) → Extends texts newer → new ≡ old ++ more → AreSeen newer more ts → Gains texts old newer new ts
-gains texts newer old new more ts e f h before g = subst (λ xs. AreSeen newer xs (before ++ ts)) (sym f) (seen_append newer old before more ts (seen_extends texts newer old before e g) h)
+pub gains : (texts newer : List (List ℕ)) (old new more : List Spanned) (ts : List Lexeme) → KeepsIds texts newer → new ≡ old ++ more → AreSeen newer more ts → Gains texts old newer new ts
+gains texts newer old new more ts e f h before g = subst (λ xs. AreSeen newer xs (before ++ ts)) (sym f) (seen_append newer old before more ts (seen_kept texts newer old before e g) h)
 
 -- one step after another
 pub gains_more : (a b c : List (List ℕ)) (x y z : List Spanned) (ts us : List Lexeme) → Gains a x b y ts → Gains b y c z us → Gains a x c z (ts ++ us)
 gains_more a b c x y z ts us g h before s = subst (λ ls. AreSeen c z ls) (append_assoc before ts us) (h (before ++ ts) (g before s))
 
-pub gains_none : (texts newer : List (List ℕ)) (old new : List Spanned) → Extends texts newer → new ≡ old → Gains texts old newer new []
-gains_none texts newer old new e f before h = subst (λ ls. AreSeen newer new ls) (sym (append-nil before)) (subst (λ xs. AreSeen newer xs before) (sym f) (seen_extends texts newer old before e h))
+pub gains_none : (texts newer : List (List ℕ)) (old new : List Spanned) → KeepsIds texts newer → new ≡ old → Gains texts old newer new []
+gains_none texts newer old new e f before h = subst (λ ls. AreSeen newer new ls) (sym (append-nil before)) (subst (λ xs. AreSeen newer xs before) (sym f) (seen_kept texts newer old before e h))
 
 abbrev pub spanned : Token → Machine → Spanned
 spanned token m = record { token = token; from = m.from; to = m.to; after_line = m.line }
 
 -- the open token is put at the end
-pub emits : {A : Type 0} (texts newer : List (List ℕ)) (old new : List Spanned) (m : Machine) (s : State) (t : Content) (token : Token) (r : Result A LexFault) → m.state ≡ s → given (ended s m) ≡ lexeme t m.from m.to m.line ∷ [] → Extends texts newer → Shows newer token t
+pub emits : {A : Type 0} (texts newer : List (List ℕ)) (old new : List Spanned) (m : Machine) (s : State) (t : Content) (token : Token) (r : Result A LexFault) → m.state ≡ s → given (ended s m) ≡ lexeme t m.from m.to m.line ∷ [] → KeepsIds texts newer → Shows newer token t
     → OnOk r (new ≡ old ++ spanned token m ∷ []) → OnOk r (Gains texts old newer new (given (ended m.state m)))
 emits texts newer old new m s t token r e g x h o = on_ok_weaker r (λ f. subst (λ ts. Gains texts old newer new ts) (sym (ap (λ z. given (ended z m)) e ∙ g)) (gains texts newer old new (spanned token m ∷ []) (lexeme t m.from m.to m.line ∷ []) x f (record { token = h; from = refl; to = refl; after_line = refl }, tt))) o
 
 -- two marks are put at the end
 pub emits_two : {A : Type 0} (texts : List (List ℕ)) (old new : List Spanned) (m : Machine) (s : State) (first : MarkOf) (r : Result A LexFault) → m.state ≡ s → given (ended s m) ≡ first_of_two m first ∷ lexeme (mark Equal) (m.from + 1) m.to false ∷ []
     → OnOk r (new ≡ old ++ record { token = Mark first; from = m.from; to = m.from + 1; after_line = m.line } ∷ record { token = Mark Equal; from = m.from + 1; to = m.to; after_line = false } ∷ []) → OnOk r (Gains texts old texts new (given (ended m.state m)))
-emits_two texts old new m s first r e g o = on_ok_weaker r (λ f. subst (λ ts. Gains texts old texts new ts) (sym (ap (λ z. given (ended z m)) e ∙ g)) (gains texts texts old new _ _ (extends_none texts) f (record { token = refl; from = refl; to = refl; after_line = refl }, (record { token = refl; from = refl; to = refl; after_line = refl }, tt)))) o
+emits_two texts old new m s first r e g o = on_ok_weaker r (λ f. subst (λ ts. Gains texts old texts new ts) (sym (ap (λ z. given (ended z m)) e ∙ g)) (gains texts texts old new _ _ (keeps_ids_none texts) f (record { token = refl; from = refl; to = refl; after_line = refl }, (record { token = refl; from = refl; to = refl; after_line = refl }, tt)))) o

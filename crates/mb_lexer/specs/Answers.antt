@@ -45,10 +45,6 @@ AreSeen texts [] [] = Unit {0}
 AreSeen texts (s ∷ ss) (t ∷ ts) = IsSeen texts s t × AreSeen texts ss ts
 AreSeen texts _ _ = ⊥
 
--- the table gets no more than further texts
-abbrev pub Extends : List (List ℕ) → List (List ℕ) → Type 0
-Extends old new = (more : List (List ℕ)) × (new ≡ old ++ more)
-
 -- the tokens get these, and stay seen
 abbrev pub Gains : List (List ℕ) → List Spanned → List (List ℕ) → List Spanned → List Lexeme → Type 0
 Gains texts old newer new ts = (before : List Lexeme) → AreSeen texts old before → AreSeen newer new (before ++ ts)

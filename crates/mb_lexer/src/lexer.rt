@@ -2,11 +2,11 @@
 ghost use Rattle.std.specs.Prelude.{◌≡◌, ℕ, ◌+◌, ◌<◌, ◌≤◌, List, [], ◌∷◌, ◌++◌, ◌/◌, ◌%◌, Some, Result, Ok, Err, IfOk, IfErr, OnOk, length, slice_get, false};
 ghost use Rattle.std.specs.Char.{len_utf8};
 ghost use Rattle.std.specs.Char.Escape.{encode_utf16};
-ghost use Rattle.mb_text.specs.Texts.{AreDistinct};
+ghost use Rattle.mb_text.specs.Texts.{AreDistinct, KeepsIds};
 ghost use Rattle.mb_lexer.specs.Reading.{fault as fault_at};
 ghost use Rattle.mb_lexer.specs.Tokens.{named};
 ghost use Rattle.mb_lexer.specs.Machine.{Machine, fresh, fault_kind, moved, ended, lasting, step as step_of};
-ghost use Rattle.mb_lexer.specs.Answers.{Shows, Extends, Gains, IsStop, Matches, Closes, given, IsFit, AddsCode};
+ghost use Rattle.mb_lexer.specs.Answers.{Shows, Gains, IsStop, Matches, Closes, given, IsFit, AddsCode};
 
 use crate::LexFault;
 use crate::state::{Move, State, begin, is_line_end};
@@ -58,7 +58,7 @@ impl Lexer {
         requires place { self.old.to + len_utf8 ch ≤ 1048576 }
         ensures next { Matches result (step_of self.old ch).next self.new }
         ensures tokens { OnOk result (Gains texts.old tokens.old.items texts.new tokens.new.items (step_of self.old ch).tokens) }
-        ensures texts { Extends texts.old texts.new }
+        ensures texts { KeepsIds texts.old texts.new }
         ensures distinct { AreDistinct texts.old → AreDistinct texts.new }
     {
         let mut change = self.state.next(ch);
@@ -76,7 +76,7 @@ impl Lexer {
         ensures closes { Closes result (ended self.old.state self.old) self.old self.new }
         ensures fresh { OnOk result (self.new ≡ fresh self.old.to (lasting (given (ended self.old.state self.old)) self.old.line)) }
         ensures tokens { OnOk result (Gains texts.old tokens.old.items texts.new tokens.new.items (given (ended self.old.state self.old))) }
-        ensures texts { Extends texts.old texts.new }
+        ensures texts { KeepsIds texts.old texts.new }
         ensures distinct { AreDistinct texts.old → AreDistinct texts.new }
     {
         self.emit(tokens, texts)?;
@@ -92,7 +92,7 @@ impl Lexer {
         requires place { self.old.to ≤ 1048576 }
         ensures closes { Closes result (ended self.old.state self.old) self.old self.new }
         ensures tokens { OnOk result (Gains texts.old tokens.old.items texts.new tokens.new.items (given (ended self.old.state self.old))) }
-        ensures texts { Extends texts.old texts.new }
+        ensures texts { KeepsIds texts.old texts.new }
         ensures distinct { AreDistinct texts.old → AreDistinct texts.new }
     {
         match self.state {
@@ -157,7 +157,7 @@ impl Lexer {
         requires { length self.now.units ≤ 1048576 }
         ensures text { IfOk result (λ id. slice_get texts.new id.0 ≡ Some self.now.units) }
         ensures memory { IfErr result (λ fault. fault ≡ LexFault.NoMemory) }
-        ensures texts { Extends texts.old texts.new }
+        ensures texts { KeepsIds texts.old texts.new }
         ensures distinct { AreDistinct texts.new }
     {
         match texts.intern(&self.units) {
@@ -172,7 +172,7 @@ impl Lexer {
         requires { length self.now.units ≤ 1048576 }
         ensures token { IfOk result (λ token. Shows texts.new token (named self.now.units)) }
         ensures memory { IfErr result (λ fault. fault ≡ LexFault.NoMemory) }
-        ensures texts { Extends texts.old texts.new }
+        ensures texts { KeepsIds texts.old texts.new }
         ensures distinct { AreDistinct texts.old → AreDistinct texts.new }
     {
         let id = self.intern(texts)?;

@@ -10,10 +10,10 @@ mod tests;
 
 ghost use Rattle.std.specs.Prelude.{◌≡◌, ℕ, ◌≤◌, ◌++◌, List, false, ◌⊎◌, IfOk, IfErr, MatchResult, length};
 ghost use Rattle.std.specs.Str.{IsValidUpTo, chars};
-ghost use Rattle.mb_text.specs.Texts.{AreDistinct};
+ghost use Rattle.mb_text.specs.Texts.{AreDistinct, KeepsIds};
 ghost use Rattle.mb_lexer.specs.Reading.{Lexeme, HasTokens};
 ghost use Rattle.mb_lexer.specs.Machine.{fresh, run};
-ghost use Rattle.mb_lexer.specs.Answers.{HasFault, AreSeen, Extends, Tells};
+ghost use Rattle.mb_lexer.specs.Answers.{HasFault, AreSeen, Tells};
 
 pub use fault::LexFault;
 pub use laws::{
@@ -60,7 +60,7 @@ pub fn lex(alloc: Global, bytes: &[u8], texts: &mut Texts) -> Result<Vec<Spanned
 fn read(alloc: Global, text: &str, texts: &mut Texts) -> Result<Vec<Spanned>, LexFault>
     requires { length text.now ≤ LONGEST_SCRIPT }
     ensures answer { Tells result texts.new (run (fresh 0 false) (chars text.now)) }
-    ensures texts { Extends texts.old texts.new }
+    ensures texts { KeepsIds texts.old texts.new }
     ensures distinct { AreDistinct texts.old → AreDistinct texts.new }
 {
     let mut lexer = Lexer::new(alloc);

@@ -3,6 +3,7 @@ use Rattle.std.specs.Prelude.{Bool, ◌==◌, ◌&&◌, List, [], ◌∷◌, Opt
 use Rattle.std.specs.List.{IsDistinct}
 use Rattle.std.specs.Map.{keys_of, lookup, remove_entry}
 use Rattle.mb_base.specs.declared.value.Key.{Key}
+use Rattle.indexmap.specs.IndexMap.{insert_entry as insert}
 
 -- the two keys are the same
 abbrev pub same_key : Key → Key → Bool
@@ -17,11 +18,9 @@ module _ {P : Type 0} where
   abbrev pub found : List (Key × P) → Key → Option P
   found table key = lookup (same_key key) table
 
-  -- the table once a property is put under a key
+  -- the table once a key is put: that of an insertion-ordered map
   abbrev pub insert_entry : List (Key × P) → Key → P → List (Key × P)
-  insert_entry [] key property = (key, property) ∷ []
-  insert_entry (pair ∷ table) key property =
-      if same_key key pair.0 then (pair.0, property) ∷ table else pair ∷ insert_entry table key property
+  insert_entry = insert same_key
 
   -- the pairs without the key's, in the order of before
   abbrev pub without : List (Key × P) → Key → List (Key × P)

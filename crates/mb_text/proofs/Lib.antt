@@ -1,4 +1,5 @@
 pub mod Indices
+pub mod Kept
 pub mod Plain
 mod Tables
 pub mod WithText

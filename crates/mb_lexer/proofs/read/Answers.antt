@@ -4,9 +4,9 @@ use Rattle.std.specs.Str.{chars}
 use Rattle.std.proofs.lemmas.Result.{err_from_is_err_and}
 use Rattle.std.proofs.lemmas.Str.{length-encode, IsUtf8-past_char, chars_past_char}
 use lib.Utf8.{encode}
+use Rattle.mb_text.proofs.Kept.{keeps_ids_more}
 use Rattle.mb_lexer.specs.Machine.{fresh, run, step, ended, after_tokens}
 use Rattle.mb_lexer.specs.Answers.{IsStop}
-use Rattle.mb_lexer.proofs.Seen.{extends_more}
 use Rattle.mb_lexer.proofs.Fit.{step_fits}
 use Rattle.mb_lexer.proofs.Driving.{told_more, scalar_left, step_to, step_stops, end_stops, none_left, end_told}
 use Rattle.mb_lexer.proofs.read.Goals as goal
@@ -31,7 +31,7 @@ loop-ch-preserved c =
       fit = step_fits c.loop-ch.lexer c.step.new.self c.in-Some.ch (scalar_left _ _ c.in-Some.ch c.loop-ch.invariant.utf8 split) c.loop-ch.invariant.fit next;
       place = omega (arith, e, p, to, length-append (encode c.in-Some.ch) c.next.new.self.rest.now, length-encode c.in-Some.ch);
       utf8 = IsUtf8-past_char _ _ c.in-Some.ch c.loop-ch.invariant.utf8 split;
-      texts = extends_more _ _ _ c.loop-ch.invariant.texts c.step.ensures.texts;
+      texts = keeps_ids_more _ _ _ c.loop-ch.invariant.texts c.step.ensures.texts;
       distinct = λ d. c.step.ensures.distinct (c.loop-ch.invariant.distinct d);
     }
 

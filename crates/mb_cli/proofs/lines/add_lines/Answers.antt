@@ -1,10 +1,10 @@
 use Rattle.std.proofs.Common.{arith, ◌≡◌, ◌∙◌, ◌++◌, ◌∷◌, [], ap, pos, take, map}
 use Rattle.std.proofs.lemmas.Grind.{common_steps}
 use Rattle.std.proofs.lemmas.List.{take_all}
+use Rattle.mb_text.proofs.Kept.{keeps_ids_more}
 use Rattle.mb_cli.specs.Lines.{contents_of}
 use Rattle.mb_cli.specs.Output.{line_of}
 use Rattle.mb_cli.proofs.Meanings.{IsLiteral-kept, means_at, length-literals, on_line}
-use Rattle.mb_cli.proofs.Progress.{KeepsIds-trans}
 use Rattle.mb_cli.specs.declared.script.Literal.TheVariants.{Whole}
 use Rattle.mb_cli.proofs.lines.add_lines.Goals as goal
 
@@ -17,7 +17,7 @@ pub loop-literal-preserved : goal.loop-literal-preserved
 loop-literal-preserved c =
     let pushed : c.push.new.self.items ≡ c.loop-literal.lines.items ++ (c.in_ok-line.line ∷ []) = grind (arith, common_steps, c.push.ensures.items, c.map_err.ensures.variant, c.in_ok-map_err.was) in
     record {
-      ids = KeepsIds-trans _ _ _ c.loop-literal.invariant.ids c.in_ok-line.ensures.ids;
+      ids = keeps_ids_more _ _ _ c.loop-literal.invariant.ids c.in_ok-line.ensures.ids;
       lines = λ meant h.
           let at = means_at c.args.texts.now c.args.literals.now meant c.loop-literal.literal-index (Whole (pos 0)) h c.loop-literal-test.true in
           on_line c.args.side c.loop-literal.lines.items c.push.new.self.items c.in_ok-line.line _ meant c.loop-literal.literal-index at.meant (c.loop-literal.invariant.lines meant h)

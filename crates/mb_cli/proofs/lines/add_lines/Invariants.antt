@@ -1,5 +1,5 @@
 use Rattle.std.proofs.Common.{◌≡◌, ◌++◌, List, map, take}
-use Rattle.mb_cli.specs.Meanings.{KeepsIds}
+use Rattle.mb_text.specs.Texts.{KeepsIds}
 use Rattle.mb_cli.specs.Form.{Literal as Meant}
 use Rattle.mb_cli.specs.Lines.{contents_of}
 use Rattle.mb_cli.specs.Literals.{AreLiterals}

@@ -2,9 +2,10 @@ use Rattle.std.proofs.Common.{arith, sym, ap, subst, refl, ◌≡◌, ◌<◌, �
 use Rattle.std.specs.Prelude.{Err}
 use Rattle.std.proofs.lemmas.Grind.{common_steps}
 use Rattle.std.proofs.lemmas.Result.{err_from_is_err_and}
+use Rattle.mb_text.proofs.Kept.{keeps_ids_more}
 use Rattle.mb_cli.specs.declared.reading.LexFault.TheVariants.{Other}
 use Rattle.mb_cli.specs.Lexemes.{is_gap, Stands}
-use Rattle.mb_cli.proofs.Progress.{KeepsIds-trans, progress_gap, progress_token, progress_end, progress_stops, here_is}
+use Rattle.mb_cli.proofs.Progress.{progress_gap, progress_token, progress_end, progress_stops, here_is}
 use Rattle.mb_cli.proofs.Steps.{stands-shorter}
 use Rattle.mb_cli.proofs.reading.lex.Goals as goal
 use Rattle.mb_cli.proofs.reading.lex.Goals.{then-byte-eq32-via-then-byte-eq32, then-byte-eq32-via-else-byte-eq32+then-byte-eq10}
@@ -48,7 +49,7 @@ loop-at-preserved c =
     let stands = subst (λ x. Stands found.0 x (drop c.in_ok-token.count x)) here found.3 in
     record {
       within = grind (arith, common_steps, le, c.loop-at-test.true);
-      ids = KeepsIds-trans _ _ _ c.loop-at.invariant.ids c.in_ok-token.ensures.ids;
+      ids = keeps_ids_more _ _ _ c.loop-at.invariant.ids c.in_ok-token.ensures.ids;
       progress = rw c.in_ok-push.ensures.items (progress_token c.args.bytes.now c.loop-at.texts c.token_at.new.texts c.loop-at.tokens.items c.loop-at.at c.in_ok-token.count c.loop-at.after_line found.0 _
           c.in_ok-token.ensures.ids le stands (record { token = found.1; from = refl; to = refl; after_line = refl }) c.loop-at.invariant.progress);
     }

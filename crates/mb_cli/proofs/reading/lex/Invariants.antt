@@ -1,5 +1,5 @@
 use Rattle.std.proofs.Common.{length, ◌-◌, ◌≤◌}
-use Rattle.mb_cli.specs.Meanings.{KeepsIds}
+use Rattle.mb_text.specs.Texts.{KeepsIds}
 use Rattle.mb_cli.proofs.Progress.{Progress}
 use Rattle.mb_cli.proofs.reading.lex.Given as goal
 

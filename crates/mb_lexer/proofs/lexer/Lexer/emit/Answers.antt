@@ -1,10 +1,11 @@
 use Rattle.std.proofs.Common.{◌≡◌, ◌≤◌, refl, sym, ap, subst, ◌∙◌, rules}
 use Rattle.mb_token.specs.declared.token.Token.TheVariants.{Text, Mark}
 use Rattle.mb_token.specs.declared.mark.Mark.TheVariants.{Equal, Not}
+use Rattle.mb_text.proofs.Kept.{keeps_ids_none}
 use Rattle.mb_lexer.specs.declared.state.State.TheVariants.{InName, InWhole, AfterText, InMark, DoubleEqual, NotEqual}
 use Rattle.mb_lexer.specs.Tokens.{named, whole, text, mark}
 use Rattle.mb_lexer.specs.Answers.{InRange}
-use Rattle.mb_lexer.proofs.Seen.{emits, emits_two, extends_none}
+use Rattle.mb_lexer.proofs.Seen.{emits, emits_two}
 use Rattle.mb_lexer.proofs.lexer.Lexer.emit.Goals as goal
 
 pub returns-in_ok-token-in-InName-clause-tokens : goal.returns-in_ok-token-in-InName-clause-tokens
@@ -15,7 +16,7 @@ pub returns-in-InWhole-clause-tokens : goal.returns-in-InWhole-clause-tokens
 returns-in-InWhole-clause-tokens c =
     let e : c.args.self.now.state ≡ InWhole c.in-InWhole.value = ap (λ m. m.state) (sym c.self.view_is) ∙ c.in-InWhole.is in
     let h : c.in-InWhole.value ≤ 9007199254740991 = subst InRange e c.requires.fit.range in
-    emits _ _ _ _ c.args.self.now (InWhole c.in-InWhole.value) (whole c.in-InWhole.value) _ c.push-in-InWhole.result e refl (extends_none _) (search rules) c.push-in-InWhole.ensures.tokens
+    emits _ _ _ _ c.args.self.now (InWhole c.in-InWhole.value) (whole c.in-InWhole.value) _ c.push-in-InWhole.result e refl (keeps_ids_none _) (search rules) c.push-in-InWhole.ensures.tokens
 
 pub returns-in_ok-id-in-AfterText-clause-tokens : goal.returns-in_ok-id-in-AfterText-clause-tokens
 returns-in_ok-id-in-AfterText-clause-tokens c =
@@ -23,7 +24,7 @@ returns-in_ok-id-in-AfterText-clause-tokens c =
 
 pub returns-in-InMark-clause-tokens : goal.returns-in-InMark-clause-tokens
 returns-in-InMark-clause-tokens c =
-    emits _ _ _ _ c.args.self.now (InMark c.in-InMark.mark) (mark c.in-InMark.mark) (Mark c.in-InMark.mark) c.push-in-InMark.result (ap (λ m. m.state) (sym c.self.view_is) ∙ c.in-InMark.is) refl (extends_none _) refl c.push-in-InMark.ensures.tokens
+    emits _ _ _ _ c.args.self.now (InMark c.in-InMark.mark) (mark c.in-InMark.mark) (Mark c.in-InMark.mark) c.push-in-InMark.result (ap (λ m. m.state) (sym c.self.view_is) ∙ c.in-InMark.is) refl (keeps_ids_none _) refl c.push-in-InMark.ensures.tokens
 
 pub returns-in-DoubleEqual-clause-tokens : goal.returns-in-DoubleEqual-clause-tokens
 returns-in-DoubleEqual-clause-tokens c =
