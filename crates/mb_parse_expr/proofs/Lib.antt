@@ -1,0 +1,9 @@
+pub mod Ahead
+pub mod Steps
+pub mod Sound
+pub mod Place
+pub mod Counts
+pub mod Forward
+pub mod Once
+pub mod Renamed
+pub mod Begins
