@@ -240,9 +240,12 @@ none_takes o (mo.After l) fresh ahead follow h = each (nat_lt l (hole o)) (nat_l
     each false false true q = q
     each false false false q = taken_none o l q
 
-pub chosen_within : {ts : List Spanned} {frames : List Frame} {mode : Mode} {at : ℕ} {move : Move} → Chosen ts frames mode at move → Takes move → at < length ts
-chosen_within {ts = ts} {mode = mode} {at = at} c h = each (slice_get ts at) refl (subst Takes c.is h)
+pub taken_within : (ts : List Spanned) (o : Option Frame) (mode : Mode) (at : ℕ) → Takes (move_of o mode (token_at ts at) (role_at ts at) (fresh_at ts at) (ahead_at ts at) (follow_at ts at)) → at < length ts
+taken_within ts o mode at h = each (slice_get ts at) refl h
   where
-    each : (o : Option Spanned) → slice_get ts at ≡ o → Takes (move_of c.o mode (token_at ts at) (role_at ts at) (fresh_at ts at) (ahead_at ts at) (follow_at ts at)) → at < length ts
-    each None q x = absurd (none_takes c.o mode (fresh_at ts at) (ahead_at ts at) (follow_at ts at) (subst (λ o. Takes (move_of c.o mode (token_of o) (role_of (token_of o)) (fresh_at ts at) (ahead_at ts at) (follow_at ts at))) q x))
-    each (Some s) q x = slice_get_within ts at s q
+    each : (x : Option Spanned) → slice_get ts at ≡ x → Takes (move_of o mode (token_at ts at) (role_at ts at) (fresh_at ts at) (ahead_at ts at) (follow_at ts at)) → at < length ts
+    each None q z = absurd (none_takes o mode (fresh_at ts at) (ahead_at ts at) (follow_at ts at) (subst (λ y. Takes (move_of o mode (token_of y) (role_of (token_of y)) (fresh_at ts at) (ahead_at ts at) (follow_at ts at))) q z))
+    each (Some s) q z = slice_get_within ts at s q
+
+pub chosen_within : {ts : List Spanned} {frames : List Frame} {mode : Mode} {at : ℕ} {move : Move} → Chosen ts frames mode at move → Takes move → at < length ts
+chosen_within {ts = ts} {mode = mode} {at = at} c h = taken_within ts c.o mode at (subst Takes c.is h)

@@ -7,3 +7,4 @@ pub mod Forward
 pub mod Once
 pub mod Renamed
 pub mod Begins
+pub mod Decides

@@ -17,14 +17,14 @@ use Rattle.mb_parse_expr.proofs.Steps.{whole_reads}
 use Rattle.mb_parse_expr.proofs.Forward.{statements_forward}
 
 -- a state behind this place, with its bodies in order
-abbrev IsBehind : ℕ → State → Type 0
+abbrev pub IsBehind : ℕ → State → Type 0
 IsBehind i (Going fs rs ds mode at) = (i ≤ at) × AreFalling i (at + 1) ds
 IsBehind i (Waits fs rs ds at) = (i < at) × AreFalling i (at + 1) ds
 IsBehind i (Ends rs ds at) = AreFalling i (at + 1) ds
 IsBehind i Fails = Unit {0}
 IsBehind i Stuck = Unit {0}
 
-higher : (i n m : ℕ) (ds : List ℕ) → n ≤ m → AreFalling i n ds → AreFalling i m ds
+pub higher : (i n m : ℕ) (ds : List ℕ) → n ≤ m → AreFalling i n ds → AreFalling i m ds
 higher i n m [] h q = tt
 higher i n m (d ∷ ds) h q = (q.0, omega (arith, q.1), q.2)
 
@@ -32,7 +32,7 @@ built_behind : (i : ℕ) (label : Label) (mode : Mode) (fs : List Frame) (ds : L
 built_behind i label mode fs ds at Short h q = tt
 built_behind i label mode fs ds at (Got parts rs) h q = (h, q)
 
-step_behind : (i : ℕ) (move : Move) (fs : List Frame) (rs : List Rose) (ds : List ℕ) (at : ℕ) → i ≤ at → AreFalling i (at + 1) ds → IsBehind i (apply move fs rs ds at)
+pub step_behind : (i : ℕ) (move : Move) (fs : List Frame) (rs : List Rose) (ds : List ℕ) (at : ℕ) → i ≤ at → AreFalling i (at + 1) ds → IsBehind i (apply move fs rs ds at)
 step_behind i (Leaf label mode) fs rs ds at h q = (omega arith, higher i (at + 1) (at + 1 + 1) ds (omega arith) q)
 step_behind i (Enter x mode) fs rs ds at h q = (omega arith, higher i (at + 1) (at + 1 + 1) ds (omega arith) q)
 step_behind i (Begin label x mode) fs rs ds at h q = (omega arith, higher i (at + 1) (at + 1 + 1) ds (omega arith) q)

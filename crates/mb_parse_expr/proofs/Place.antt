@@ -30,7 +30,7 @@ use Rattle.mb_parse_expr.proofs.Sound.{good_step}
 ends_step : (ts : List Spanned) {fs : List Frame} {rs q : List Rose} {ds es : List ℕ} {mode : Mode} {at j : ℕ} → Leads ts (Going fs rs ds mode at) (Ends q es j) → Leads ts (apply (move_at ts fs mode at) fs rs ds at) (Ends q es j)
 ends_step ts (after p) = p
 
-progress_step : (ts : List Spanned) (level : Level) (start : ℕ) (fs : List Frame) (rs : List Rose) (ds : List ℕ) (mode : Mode) (at : ℕ) (move : Move) → move ≡ move_at ts fs mode at → Progress ts level start (Going fs rs ds mode at) → Progress ts level start (apply move fs rs ds at)
+pub progress_step : (ts : List Spanned) (level : Level) (start : ℕ) (fs : List Frame) (rs : List Rose) (ds : List ℕ) (mode : Mode) (at : ℕ) (move : Move) → move ≡ move_at ts fs mode at → Progress ts level start (Going fs rs ds mode at) → Progress ts level start (apply move fs rs ds at)
 progress_step ts level start fs rs ds mode at move e p = subst (λ m. Progress ts level start (apply m fs rs ds at)) (sym e) (record {
   sound = good_step ts level start fs rs ds mode at p.sound;
   complete = λ a es j w. ends_step ts (p.complete a es j w);
@@ -226,7 +226,7 @@ waiting_needs {ts = ts} w no_body a es j h = each no_body (w.progress.complete a
     each no_body (answered st cb l) = no_body _ _ st cb
 
 -- behind statements
-waits_step : (ts : List Spanned) (body : Roses) (next : ℕ) {fs : List Frame} {rs : List Rose} {ds es : List ℕ} {at : ℕ} (q : List Rose) (j : ℕ) → AreTheStatements ts body at next → Leads ts (Waits fs rs ds at) (Ends q es j) → Leads ts (Going fs (pushed body rs) ds (mo.Block (size body)) (next + 1)) (Ends q es j)
+pub waits_step : (ts : List Spanned) (body : Roses) (next : ℕ) {fs : List Frame} {rs : List Rose} {ds es : List ℕ} {at : ℕ} (q : List Rose) (j : ℕ) → AreTheStatements ts body at next → Leads ts (Waits fs rs ds at) (Ends q es j) → Leads ts (Going fs (pushed body rs) ds (mo.Block (size body)) (next + 1)) (Ends q es j)
 waits_step ts body next {fs = fs} {rs = rs} {ds = ds} {es = es} q j a (answered {body = body'} {j = next'} st cb l) =
     let o = a.only body' next' st cb in
     subst (λ x. Leads ts (Going fs (pushed x rs) ds (mo.Block (size x)) (next + 1)) (Ends q es j)) o.0

@@ -1,5 +1,5 @@
 -- Bodies in braces, and where they begin.
-use Rattle.std.specs.Prelude.{◌≡◌, ℕ, ◌<◌, List, [], ◌∷◌}
+use Rattle.std.specs.Prelude.{◌≡◌, ◌⊎◌, ℕ, ◌<◌, List, [], ◌∷◌}
 use Rattle.mb_token.specs.declared.token.Spanned.{Spanned}
 use Rattle.mb_tree.specs.Roses.{Rose, Roses}
 use Rattle.mb_parse_expr.specs.declared.role.Role.TheVariants as r
@@ -20,3 +20,20 @@ HasOneExpression ts level i = (a b : Rose) (es gs : List ℕ) (j k : ℕ) → Wh
 abbrev pub AreFalling : ℕ → ℕ → List ℕ → Type 0
 AreFalling low high [] = Unit {0}
 AreFalling low high (d ∷ ds) = (low < d) × (d < high) × AreFalling low d ds
+
+-- statements stand here up to a closing brace
+pub record BodyAt (ts : List Spanned) (i : ℕ) : Type 0 where
+  pub body : Roses
+  pub end : ℕ
+  pub stand : Statements ts body i end
+  pub brace : RoleAt ts end r.CloseBrace
+
+-- an expression stands here
+pub record ExpressionAt (ts : List Spanned) (level : Level) (i : ℕ) : Type 0 where
+  pub tree : Rose
+  pub bodies : List ℕ
+  pub end : ℕ
+  pub whole : Whole ts level tree bodies i end
+
+abbrev pub IsDecided : Type 0 → Type 0
+IsDecided A = A ⊎ (A → ⊥)
