@@ -1,0 +1,10 @@
+pub mod Tokens
+pub mod Begins
+pub mod Places
+pub mod Steps
+pub mod Sound
+pub mod Counts
+pub mod Place
+pub mod Levels
+pub mod Once
+pub mod Decides

@@ -1,0 +1,205 @@
+// The parser of the statements of one level.
+ghost use Rattle.std.specs.Prelude.{◌≡◌, ℕ, ◌+◌, ◌≤◌, ◌<◌, ◌^◌, List, [], ◌∷◌, ◌++◌, length, vec_len, IfOk, OnOk, Option};
+ghost use Rattle.mb_tree.specs.Roses.{Shape, shapes, shape, id_of};
+ghost use Rattle.mb_parse_expr.specs.Roles as roles;
+ghost use Rattle.mb_parse_expr.specs.Reads.{IsTree};
+ghost use Rattle.mb_parse_stmt.specs.Terminals as terminals;
+ghost use Rattle.mb_parse_stmt.specs.Machine as spec;
+ghost use Rattle.mb_parse_stmt.specs.Answers.{IsReading, IsWanting, Answers, Moves, taken};
+
+use crate::machine::{Frame, Holder, Label, Mode, Move, Stop, View, next_move};
+use crate::terminal::{Terminal, classify};
+use mb_base::{NoMemory, NodeId};
+use mb_parse_expr::Level;
+use mb_token::Spanned;
+use mb_tree::{Node, Tree};
+use std::alloc::Global;
+
+// The most nodes of a tree, whose ids have 32 bits.
+const MOST_NODES: usize = 1 << 31;
+
+/// Why a parser stopped.
+#[derive(Clone, Copy)]
+pub enum Step {
+    /// An expression of this level is wanted.
+    Asks(Level),
+    /// The statements are over.
+    Ended,
+    /// No statements stand there up to their end.
+    Wrong,
+}
+
+/// A parser of the script's statements, or of those of a function's body within an expression.
+#[derive(Drop)]
+pub struct StatementParser {
+    pub frames: Vec<Frame>,
+    pub operands: Vec<NodeId>,
+    pub mode: Mode,
+    pub at: usize,
+    pub stop: Stop,
+}
+
+fn top_of(frames: &[Frame]) -> Option<Frame>
+    ensures { (fs : List Frame) → frames.now ≡ spec.laid fs → result ≡ spec.top fs }
+{
+    frames.last().copied()
+}
+
+fn terminal_at(tokens: &[Spanned], at: usize) -> Terminal
+    ensures { result ≡ terminals.terminal_at tokens.now at }
+{
+    match tokens.get(at) {
+        Some(spanned) => classify(Some(spanned.token)),
+        None => classify(None),
+    }
+}
+
+fn is_fresh(tokens: &[Spanned], at: usize) -> bool
+    ensures { result ≡ roles.fresh_at tokens.now at }
+{
+    match tokens.get(at) {
+        Some(spanned) => spanned.after_line,
+        None => false,
+    }
+}
+
+// Whether statements that aren't within others end at this token.
+fn stops(stop: Stop, here: Terminal) -> bool
+    ensures { result ≡ spec.stops_of stop here }
+{
+    match stop {
+        Stop::End => match here {
+            Terminal::End => true,
+            _ => false,
+        },
+        Stop::Brace => match here {
+            Terminal::CloseBrace => true,
+            _ => false,
+        },
+    }
+}
+
+fn view(stop: Stop, tokens: &[Spanned], at: usize) -> View
+    requires { at ≤ length tokens.now }
+    ensures { result ≡ spec.view_at stop tokens.now at }
+{
+    let here = terminal_at(tokens, at);
+    View {
+        here,
+        next: terminal_at(tokens, at + 1),
+        third: terminal_at(tokens, at + 1 + 1),
+        fresh: is_fresh(tokens, at + 1),
+        stops: stops(stop, here),
+    }
+}
+
+/// A node of the last operands, which becomes the last operand. A full tree takes none.
+pub fn build(
+    alloc: Global,
+    tree: &mut Tree,
+    operands: &mut Vec<NodeId>,
+    label: Label,
+    count: usize,
+) -> Result<(), NoMemory>
+    requires { count ≤ vec_len operands.old }
+    ensures few { OnOk result (vec_len tree.new.nodes ≤ MOST_NODES) }
+    ensures built { (front kids : List NodeId) → operands.old.items ≡ front ++ kids → length kids ≡ count → OnOk result (
+        (operands.new.items ≡ front ++ id_of (length (shapes tree.old)) ∷ [])
+        × (shapes tree.new ≡ shapes tree.old ++ shape (spec.told label) kids ∷ [])) }
+{
+    if tree.nodes.len() >= MOST_NODES {
+        return Err(NoMemory);
+    }
+    let from = operands.len() - count;
+    let id = NodeId(tree.nodes.len() as u32);
+    let children = Vec::from_slice(alloc, &operands[from..])?;
+    operands.truncate(from);
+    tree.nodes.push(Node {
+        kind: label.kind,
+        name: label.name,
+        whole: 0,
+        children,
+    })?;
+    operands.push(id)?;
+    Ok(())
+}
+
+impl StatementParser {
+    /// A parser of the statements that stand at `at`.
+    pub fn begin(alloc: Global, at: u32, stop: Stop) -> Result<StatementParser, NoMemory>
+        ensures place { IfOk result (λ parser. (parser.at ≡ at) × (taken parser.mode ≡ 0)) }
+        ensures kept { IfOk result (λ parser. parser.stop ≡ stop) }
+        ensures reading { (ts : List Spanned) (base : List Shape) → at ≤ length ts → IfOk result (λ parser. IsReading ts at base parser base) }
+    {
+        let mut frames = Vec::new(alloc);
+        frames.push(Frame::Statements(Holder::Top, 0))?;
+        Ok(StatementParser {
+            frames,
+            operands: Vec::new(alloc),
+            mode: Mode::Statement,
+            at: at as usize,
+            stop,
+        })
+    }
+
+    /// Reads on, up to an expression or the end. After `Wrong` or `NoMemory` the parser isn't used again.
+    pub fn advance(
+        &mut self,
+        alloc: Global,
+        tokens: &[Spanned],
+        tree: &mut Tree,
+    ) -> Result<Step, NoMemory>
+        requires few { length tokens.now ≤ 1048576 }
+        requires reading { (start : ℕ) × (base : List Shape) × IsReading tokens.now start base self.old (shapes tree.old) }
+        ensures answers { (start : ℕ) (base : List Shape) → IsReading tokens.now start base self.old (shapes tree.old) → IfOk result (Answers tokens.now start base self.new (shapes tree.new)) }
+        ensures kept { self.new.stop ≡ self.old.stop }
+        ensures forward { IfOk result (Moves self.old self.new) }
+    {
+        if tree.nodes.len() > MOST_NODES {
+            return Err(NoMemory);
+        }
+        'steps: loop {
+            let view = view(self.stop, tokens, self.at);
+            match next_move(top_of(&self.frames), self.mode, view) {
+                Move::Leaf(label, mode, count) => {
+                    build(alloc, tree, &mut self.operands, label, 0)?;
+                    self.mode = mode;
+                    self.at += count as usize;
+                }
+                Move::Enter(frame, mode, count) => {
+                    self.frames.push(frame)?;
+                    self.mode = mode;
+                    self.at += count as usize;
+                }
+                Move::Swap(frame, mode, count) => {
+                    let _ = self.frames.pop();
+                    self.frames.push(frame)?;
+                    self.mode = mode;
+                    self.at += count as usize;
+                }
+                Move::Build(label, parts, mode, count) => {
+                    let _ = self.frames.pop();
+                    build(alloc, tree, &mut self.operands, label, parts)?;
+                    self.mode = mode;
+                    self.at += count as usize;
+                }
+                Move::Ask(level) => return Ok(Step::Asks(level)),
+                Move::Ended => return Ok(Step::Ended),
+                Move::Wrong => return Ok(Step::Wrong),
+            }
+        }
+    }
+
+    /// Goes on behind the expression that was wanted.
+    pub fn read(&mut self, next: u32, root: NodeId) -> Result<(), NoMemory>
+        ensures place { OnOk result ((self.new.at ≡ next) × (taken self.new.mode ≡ 1)) }
+        ensures kept { self.new.stop ≡ self.old.stop }
+        ensures reading { (ts : List Spanned) (start : ℕ) (base out now : List Shape) (level : Level) (ds : List ℕ) →
+            IsWanting ts start base level self.old out → IsTree ts level self.old.at ds out now next root → OnOk result (IsReading ts start base self.new now) }
+    {
+        self.operands.push(root)?;
+        self.mode = Mode::Behind;
+        self.at = next as usize;
+        Ok(())
+    }
+}

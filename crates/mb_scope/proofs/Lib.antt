@@ -1,0 +1,10 @@
+pub mod First
+pub mod Lists
+pub mod Repeating
+pub mod Knowing
+pub mod Targeting
+pub mod Ruling
+pub mod Deciding
+pub mod Naming
+pub mod Adding
+pub mod Building

@@ -1,0 +1,18 @@
+use Rattle.std.proofs.Common.{◌∙◌}
+use Rattle.mb_tree.specs.Roses.{shapes, view}
+use Rattle.mb_scope.proofs.Adding.{item, item_parts, item_next}
+use Rattle.mb_scope.proofs.Naming.{names_more}
+use Rattle.mb_scope.proofs.names.scopes.Goals as goal
+
+pub add_names-requires-clause-there : goal.add_names-requires-clause-there
+add_names-requires-clause-there c =
+    let n = c.node-item.result in
+    let t = item c.args.tree.now c.deref-node-items.result.now c.loop-place.place n c.deref-node-items.ensures.value c.loop-place-test.true c.node-item.is in
+    item_parts c.args.tree.now c.loop-place.place n t c.requires.whole
+
+pub loop-place-preserved : goal.loop-place-preserved
+loop-place-preserved c =
+    let n = c.node-item.result in
+    let t = item c.args.tree.now c.deref-node-items.result.now c.loop-place.place n c.deref-node-items.ensures.value c.loop-place-test.true c.node-item.is in
+    names_more (shapes c.args.tree.now) c.loop-place.place (view n) c.loop-place.names.items c.add_names.new.names.items (item_next c.args.tree.now c.loop-place.place n t) c.in_ok-add_names.ensures
+    ∙ c.loop-place.invariant

@@ -1,0 +1,48 @@
+use Rattle.std.proofs.Common.{◌≡◌, ◌∙◌, List, Some, refl, sym, ap}
+use Rattle.std.specs.Prelude.{slice_get, None}
+use Rattle.mb_base.specs.declared.value.NodeId.{NodeId}
+use Rattle.mb_tree.specs.Roses.{shapes, view}
+use Rattle.mb_tree.proofs.Heights.{parts_first}
+use Rattle.mb_scope.proofs.Adding.{there, among_all}
+use Rattle.mb_scope.proofs.Targeting.{target_simple, target_invalid, target_up, target_down, target_empty}
+use Rattle.mb_scope.proofs.target.can_be_assigned.Goals as goal
+
+pub returns-in-Simple : goal.returns-in-Simple
+returns-in-Simple c =
+    let s = shapes c.args.tree.now in
+    let is = there c.args.tree.now c.loop-part.id.0 c.index-node.result.now c.loop-part.invariant.there c.index-node.ensures in
+    (λ h. c.loop-part.invariant.up (target_simple s c.loop-part.id (view c.index-node.result.now) is (sym c.in-Simple.ensures)), λ h. refl)
+
+pub returns-in-Invalid : goal.returns-in-Invalid
+returns-in-Invalid c =
+    let s = shapes c.args.tree.now in
+    let is = there c.args.tree.now c.loop-part.id.0 c.index-node.result.now c.loop-part.invariant.there c.index-node.ensures in
+    (λ h. absurd (let z : ⊥ = cc in z), λ h. absurd (target_invalid s c.loop-part.id (view c.index-node.result.now) is (sym c.in-Invalid.ensures) (c.loop-part.invariant.down h)))
+
+pub loop-part-smaller : goal.loop-part-smaller
+loop-part-smaller c =
+    let n = c.index-node.result.now in
+    let is = there c.args.tree.now c.loop-part.id.0 n c.loop-part.invariant.there c.index-node.ensures in
+    let first : slice_get n.children.items 0 ≡ Some c.in-Some.part.now = sym (ap (λ (xs : List NodeId). slice_get xs 0) c.deref.ensures.value) ∙ sym c.in-Some.ensures.value in
+    parts_first c.requires.whole c.loop-part.id.0 (view n) is 0 c.in-Some.part.now first
+
+pub loop-part-preserved : goal.loop-part-preserved
+loop-part-preserved c =
+    let s = shapes c.args.tree.now in
+    let n = c.index-node.result.now in
+    let part = c.in-Some.part.now in
+    let is = there c.args.tree.now c.loop-part.id.0 n c.loop-part.invariant.there c.index-node.ensures in
+    let first : slice_get n.children.items 0 ≡ Some part = sym (ap (λ (xs : List NodeId). slice_get xs 0) c.deref.ensures.value) ∙ sym c.in-Some.ensures.value in
+    record {
+      there = among_all c.args.tree.now c.loop-part.id.0 n c.loop-part.invariant.there c.index-node.ensures c.requires.whole 0 part first;
+      up = λ t. c.loop-part.invariant.up (target_up s c.loop-part.id part (view n) is (sym c.in-Grouped.ensures) first t);
+      down = λ t. target_down s c.loop-part.id part (view n) is (sym c.in-Grouped.ensures) first (c.loop-part.invariant.down t);
+    }
+
+pub returns-in-None : goal.returns-in-None
+returns-in-None c =
+    let s = shapes c.args.tree.now in
+    let n = c.index-node.result.now in
+    let is = there c.args.tree.now c.loop-part.id.0 n c.loop-part.invariant.there c.index-node.ensures in
+    let none : slice_get n.children.items 0 ≡ None = sym (ap (λ (xs : List NodeId). slice_get xs 0) c.deref.ensures.value) ∙ sym c.in-None.ensures.value in
+    (λ h. absurd (let z : ⊥ = cc in z), λ t. absurd (target_empty s c.loop-part.id (view n) is (sym c.in-Grouped.ensures) none (c.loop-part.invariant.down t)))

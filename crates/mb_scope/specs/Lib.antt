@@ -1,0 +1,9 @@
+pub mod First
+pub mod Kinds
+pub mod Bindings
+pub mod Jumps
+pub mod Around
+pub mod Targets
+pub mod Faults
+pub mod Names
+pub mod Rows

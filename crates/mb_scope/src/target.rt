@@ -1,0 +1,117 @@
+// What operators change.
+ghost use Rattle.std.specs.Prelude.{◌≡◌, ◌<◌, ◌^◌, ◌↔◌, IsTrue, vec_len};
+ghost use Rattle.mb_tree.specs.Roses.{shapes, view};
+ghost use Rattle.mb_tree.specs.Heights.{IsWhole, AreAmong};
+ghost use Rattle.mb_scope.specs.First.{IsFirst};
+ghost use Rattle.mb_scope.specs.Kinds.{form_of, use_of, is_property};
+ghost use Rattle.mb_scope.specs.Targets.{IsTarget, IsProperty, Misses, MissesFirst, IsBadTarget};
+
+use mb_base::NodeId;
+use mb_tree::{Kind, Node, Sign, Tree};
+
+/// What an expression is as a target (ECMA-262, 8.6.4, AssignmentTargetType).
+#[derive(Clone, Copy, Debug, PartialEq, Eq)]
+pub enum Form {
+    /// A name or a property.
+    Simple,
+    /// What its part is.
+    Grouped,
+    Invalid,
+}
+
+/// What an operator does with its first operand.
+#[derive(Clone, Copy, Debug, PartialEq, Eq)]
+pub enum Use {
+    Assigns,
+    Deletes,
+    Reads,
+}
+
+impl Form {
+    fn of(kind: Kind) -> Form
+        ensures { result ≡ form_of kind }
+    {
+        match kind {
+            Kind::Name | Kind::Member | Kind::Index => Form::Simple,
+            Kind::Group => Form::Grouped,
+            _ => Form::Invalid,
+        }
+    }
+}
+
+impl Use {
+    fn of(kind: Kind) -> Use
+        ensures { result ≡ use_of kind }
+    {
+        match kind {
+            Kind::Assign | Kind::Compound(_) | Kind::Update { .. } => Use::Assigns,
+            Kind::Unary(Sign::Delete) => Use::Deletes,
+            _ => Use::Reads,
+        }
+    }
+}
+
+fn is_property(kind: Kind) -> bool
+    ensures { result ≡ is_property kind }
+{
+    matches!(kind, Kind::Member | Kind::Index)
+}
+
+// Whether a node is a name or a property, perhaps in parentheses.
+fn can_be_assigned(tree: &Tree, target: NodeId) -> bool
+    requires whole { IsWhole (shapes tree.now) }
+    requires there { target.0 < vec_len tree.now.nodes }
+    ensures { IsTrue result ↔ IsTarget (shapes tree.now) target }
+{
+    let mut id = target;
+    loop {
+        let node = &tree.nodes[id.0 as usize];
+        match Form::of(node.kind) {
+            Form::Simple => return true,
+            Form::Invalid => return false,
+            Form::Grouped => match node.children.first() {
+                Some(part) => id = *part,
+                None => return false,
+            },
+        }
+    }
+}
+
+// Whether an operand isn't what its operator wants.
+fn misses(tree: &Tree, usage: Use, operand: NodeId) -> bool
+    requires whole { IsWhole (shapes tree.now) }
+    requires there { operand.0 < vec_len tree.now.nodes }
+    ensures { IsTrue result ↔ Misses (shapes tree.now) usage operand }
+{
+    match usage {
+        Use::Assigns => !can_be_assigned(tree, operand),
+        Use::Deletes => !is_property(tree.nodes[operand.0 as usize].kind),
+        Use::Reads => false,
+    }
+}
+
+// Whether a node is an operator whose first operand isn't what it wants.
+fn misses_first(tree: &Tree, node: &Node) -> bool
+    requires whole { IsWhole (shapes tree.now) }
+    requires there { AreAmong node.now.children.items (vec_len tree.now.nodes) }
+    ensures { IsTrue result ↔ MissesFirst (shapes tree.now) (view node.now) }
+{
+    match node.children.first() {
+        Some(operand) => misses(tree, Use::of(node.kind), *operand),
+        None => false,
+    }
+}
+
+// The first operator whose operand isn't what it wants.
+pub fn first_bad_target(tree: &Tree) -> Option<NodeId>
+    requires whole { IsWhole (shapes tree.now) }
+    requires few { vec_len tree.now.nodes < 2 ^ 32 }
+    ensures { IsFirst (λ id. id.0) (IsBadTarget (shapes tree.now)) result }
+{
+    for (place, node) in tree.nodes.iter().enumerate() {
+        if misses_first(tree, node) {
+            return Some(NodeId(place as u32));
+        }
+    }
+    None
+}
