@@ -1,5 +1,5 @@
 -- How a text is read piece by piece.
-use Rattle.std.proofs.Common.{◌≡◌, ◌<◌, ◌≤◌, ◌+◌, ◌-◌, min, ℕ, ◌++◌, List, [], Option, Some, None, take, length, append_assoc, sym, ap, ◌∙◌, refl, arith, length-append, subst}
+use Rattle.std.proofs.Common.{◌≡◌, ◌<◌, ◌≤◌, ◌+◌, min, ℕ, ◌++◌, List, [], Option, Some, None, take, length, append_assoc, sym, ap, ◌∙◌, refl, arith, length-append, subst}
 use Rattle.std.proofs.lemmas.Grind.{common_steps}
 use Rattle.std.proofs.lemmas.List.{append-nil}
 use Rattle.std.proofs.lemmas.Option.{none-some, same_Some}
@@ -7,7 +7,6 @@ use Rattle.mb_outer.specs.Causes.{Starts, Reads}
 use Rattle.mb_outer.specs.Shelf.{Shelf, held}
 use Rattle.mb_outer.specs.declared.library.Start.TheVariants as start
 use Rattle.mb_outer.specs.declared.library.Got.TheVariants as got
-use Rattle.mb_cli.specs.Form.{longest}
 use Rattle.mb_cli.specs.Whole.{IsWhole, IsReadUpTo}
 
 -- where the library tells its texts, the text of the name is what was read, and then what is left
@@ -36,25 +35,25 @@ read_ended shelf name None next text into some h r = absurd (none-some h.left h.
 read_ended shelf name (Some left) next text into some h r =
     h.text_is ∙ ap (λ x. Some (text ++ x)) (sym (same_Some _ _ h.rest_is) ∙ r.2 ∙ r.3 refl some) ∙ ap Some (append-nil text)
 
-pub too_long : (shelf : Shelf) (name : List ℕ) (rest : Option (List ℕ)) (text : List ℕ) → longest < length text → IsRead shelf name rest text → IsWhole (held name shelf) None
-too_long shelf name rest text long h = of (held name shelf) h.text_is
+pub too_long : (most : ℕ) (shelf : Shelf) (name : List ℕ) (rest : Option (List ℕ)) (text : List ℕ) → most < length text → IsRead shelf name rest text → IsWhole most (held name shelf) None
+too_long most shelf name rest text long h = of (held name shelf) h.text_is
   where
-    of : (whole : Option (List ℕ)) → whole ≡ Some (text ++ h.left) → IsWhole whole None
+    of : (whole : Option (List ℕ)) → whole ≡ Some (text ++ h.left) → IsWhole most whole None
     of None is = absurd (none-some (text ++ h.left) is)
     of (Some whole) is = omega (arith, ap length (same_Some _ _ is) ∙ length-append text h.left)
 
 -- how long the buffer of a read is
-pub buffer_length : (buffer piece : List ℕ) (most len : ℕ) → length buffer ≡ length (take most piece) → length piece ≡ 4096 → most ≡ min 4096 (65537 - len)
-    → length buffer ≡ min 4096 (65537 - len)
-buffer_length buffer piece most len is long most_is = grind (arith, common_steps, is, long, most_is)
+pub buffer_length : (buffer piece : List ℕ) (count left : ℕ) → length buffer ≡ length (take count piece) → length piece ≡ 4096 → count ≡ min 4096 left
+    → length buffer ≡ min 4096 left
+buffer_length buffer piece count left is long count_is = grind (arith, common_steps, is, long, count_is)
 
 pub longer : (text more : List ℕ) (n : ℕ) (into : List ℕ) → more ≡ text ++ take n into → length more ≤ length text + n
 longer text more n into is = grind (arith, common_steps, ap length is)
 
 -- how far a text was read
-pub read_up_to : (shelf : Shelf) (name : List ℕ) (told : Option (List ℕ)) (text rest : List ℕ) → length text ≤ longest + 1 → IsRead shelf name told text → told ≡ Some rest
-    → IsReadUpTo shelf name rest
-read_up_to shelf name told text rest within h is =
+pub read_up_to : (most : ℕ) (shelf : Shelf) (name : List ℕ) (told : Option (List ℕ)) (text rest : List ℕ) → length text ≤ most + 1 → IsRead shelf name told text → told ≡ Some rest
+    → IsReadUpTo most shelf name rest
+read_up_to most shelf name told text rest within h is =
     let same : h.left ≡ rest = same_Some _ _ (sym h.rest_is ∙ is) in
     record { front = text; text_is = h.text_is ∙ ap (λ l. Some (text ++ l)) same; within = within }
 

@@ -42,7 +42,6 @@ AreRead-push texts [] [] read lexeme all one = (one, tt)
 AreRead-push texts (r ∷ reads) (l ∷ lexemes) read lexeme all one = (all.0, AreRead-push texts reads lexemes read lexeme all.1 one)
 AreRead-push texts reads lexemes read lexeme all one = absurd all
 
-
 pub progress_start : (bytes : List ℕ) (texts : List (List ℕ)) → Progress bytes texts [] 0 false
 progress_start bytes texts = record { done = []; read = tt; on = λ ts l. l; back = λ all l. (all, refl, l) }
 

@@ -8,4 +8,6 @@ pub mod Outcome
 pub mod Output
 pub mod Settings
 pub mod Standing
+pub mod TreeFaults
+pub mod Trees
 pub mod Whole

@@ -1,4 +1,4 @@
--- The text that two scripts write.
+-- The text that the commands write.
 use Rattle.std.specs.Prelude.{ℕ, List, [], ◌∷◌, ◌++◌, map, codes, false}
 use Rattle.std.specs.Fmt.{decimal}
 use Rattle.std.specs.List.{concat}
@@ -30,3 +30,7 @@ lines_of left right = map (line_of Left) left ++ map (line_of Right) right ++ la
 
 abbrev pub text_of : List Literal → List Literal → List ℕ
 text_of left right = concat (lines_of left right)
+
+-- the line of a script that is right
+abbrev pub right_line : List ℕ
+right_line = codes "= ok" ++ 10 ∷ []

@@ -1,29 +1,38 @@
-//! `membrane`: runs two scripts, each on a side of its own, and prints what they print.
+//! `membrane`: runs two scripts, each on a side of its own, and prints what they print, or checks one.
 #![tactic(auto)]
 
+mod check;
 mod command;
+mod laws;
 mod lines;
 mod number;
 mod puts;
 mod reading;
+mod run;
 mod script;
 mod status;
 #[cfg(test)]
 mod tests;
 mod token;
+mod tree;
 mod whole;
 mod words;
 mod world;
 
 pub use command::serve;
+pub use laws::{
+    a_script_has_a_tree_or_a_fault, a_script_has_one_fault, never_a_tree_and_a_fault,
+    scripts_of_the_first_form_have_a_tree,
+};
 use mb_base::Side;
 use mb_outer::{FileLibrary, WriteSink};
 pub use reading::tokens_are_unique;
 pub use script::literals_are_unique;
-pub use status::{ScriptKind, Status, WordsKind};
+pub use status::{ScriptKind, Status, Which, WordsKind};
 use std::io::ErrorKind;
 use std::process::ExitCode;
 use thiserror::Error;
+pub use tree::{TreeFault, read_tree};
 pub use world::World;
 
 // What a status that isn't an end of a run says on standard error.
@@ -35,12 +44,23 @@ enum Complaint {
     ReadFault,
     #[error("membrane: write failed")]
     WriteFault,
-    #[error("membrane: left: shape")]
-    LeftShape,
-    #[error("membrane: right: shape")]
-    RightShape,
+    #[error("membrane: {side}: {kind}")]
+    Script {
+        side: &'static str,
+        kind: ScriptKind,
+    },
+    #[error("membrane: too long: left")]
+    LongLeft,
     #[error("membrane: no memory")]
     NoMemory,
+}
+
+// A side as it is told.
+fn name_of(side: Side) -> &'static str {
+    match side {
+        Side::Left => "left",
+        Side::Right => "right",
+    }
 }
 
 // The complaint of a status, where it has one.
@@ -50,14 +70,11 @@ fn complaint_of(status: Status) -> Option<Complaint> {
         Status::BadWords(WordsKind::Usage) => Some(Complaint::Usage),
         Status::ReadFault => Some(Complaint::ReadFault),
         Status::WriteFault => Some(Complaint::WriteFault),
-        Status::BadScript {
-            side: Side::Left,
-            kind: ScriptKind::Shape,
-        } => Some(Complaint::LeftShape),
-        Status::BadScript {
-            side: Side::Right,
-            kind: ScriptKind::Shape,
-        } => Some(Complaint::RightShape),
+        Status::BadScript { side, kind } => Some(Complaint::Script {
+            side: name_of(side),
+            kind,
+        }),
+        Status::TooLong(Which::Left) => Some(Complaint::LongLeft),
         Status::NoMemory => Some(Complaint::NoMemory),
     }
 }

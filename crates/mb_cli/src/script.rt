@@ -17,21 +17,21 @@ pub enum Literal {
     Text(StrId),
 }
 
-// Why a script isn't taken.
+// Why a script isn't of the first form.
 #[derive(Clone, Copy, Debug, PartialEq, Eq)]
-pub enum ScriptFault {
+pub enum FormFault {
     Shape,
     NoMemory,
 }
 
-impl From<AllocError> for ScriptFault {
+impl From<AllocError> for FormFault {
     ghost use Rattle.std.specs.Prelude.{◌≡◌};
-    ghost use Rattle.mb_cli.specs.declared.script.ScriptFault.TheVariants.{NoMemory};
+    ghost use Rattle.mb_cli.specs.declared.script.FormFault.TheVariants.{NoMemory};
 
     ghost from_gives = { λ _ fault. fault ≡ NoMemory };
 
-    fn from(_: AllocError) -> ScriptFault {
-        ScriptFault::NoMemory
+    fn from(_: AllocError) -> FormFault {
+        FormFault::NoMemory
     }
 }
 
@@ -80,20 +80,20 @@ pub fn read_script(
     alloc: Global,
     bytes: &[u8],
     texts: &mut Texts,
-) -> Result<Vec<Literal>, ScriptFault>
+) -> Result<Vec<Literal>, FormFault>
     requires { length bytes.now ≤ 65536 }
     ensures script { IfOk result (λ literals. (meant : List Meant) × HasLiterals bytes.now meant × AreLiterals texts.new literals.items meant) }
-    ensures shape { result ≡ Err ScriptFault.Shape → (meant : List Meant) → HasLiterals bytes.now meant → ⊥ }
+    ensures shape { result ≡ Err FormFault.Shape → (meant : List Meant) → HasLiterals bytes.now meant → ⊥ }
     ensures ids { KeepsIds texts.old texts.new }
 {
     let tokens = match lex(alloc, bytes, texts) {
         Ok(tokens) => tokens,
-        Err(LexFault::Other) => return Err(ScriptFault::Shape),
-        Err(LexFault::NoMemory) => return Err(ScriptFault::NoMemory),
+        Err(LexFault::Other) => return Err(FormFault::Shape),
+        Err(LexFault::NoMemory) => return Err(FormFault::NoMemory),
     };
     match statements(alloc, &tokens)? {
         Some(literals) => Ok(literals),
-        None => Err(ScriptFault::Shape),
+        None => Err(FormFault::Shape),
     }
 }
 

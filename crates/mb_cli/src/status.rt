@@ -2,7 +2,8 @@
 ghost use Rattle.std.specs.Prelude.{◌≡◌};
 ghost use Rattle.mb_cli.specs.ExitCode.{code_of};
 
-use mb_base::{NoMemory, Side};
+use mb_base::{NoMemory, NodeId, Side};
+use std::fmt;
 
 /// What is wrong with the words of a command line.
 #[derive(Clone, Copy, Debug, PartialEq, Eq)]
@@ -10,10 +11,47 @@ pub enum WordsKind {
     Usage,
 }
 
-/// What is wrong with a script.
+/// What is wrong with a script. A place is an offset of bytes, and a node is a place in the script's tree.
 #[derive(Clone, Copy, Debug, PartialEq, Eq)]
 pub enum ScriptKind {
+    /// The bytes aren't UTF-8; the longest front that is ends here.
+    Utf8 { at: u32 },
+    /// No token stands here (ECMA-262, 12).
+    Token { at: u32 },
+    /// A digit stands here, but no number.
+    Number { at: u32 },
+    /// The tokens are no script (ECMA-262, 16.1).
     Shape,
+    /// The script's tree is too high.
+    Deep,
+    /// This node binds a name a second time (ECMA-262, 14.2.1, 14.7.4.1, 14.15.1, 15.1.1, 15.2.1, 16.1.1).
+    Twice { node: NodeId },
+    /// This `return`, `break` or `continue` has nothing to leave (ECMA-262, 14.8.1, 14.9.1, 14.10.1).
+    Stray { node: NodeId },
+    /// The operand of this operator can't be assigned, or not deleted (ECMA-262, 13.4.1, 13.5.1.1, 13.15.1).
+    BadTarget { node: NodeId },
+}
+
+impl fmt::Display for ScriptKind {
+    fn fmt<W: fmt::Write>(&self, f: &mut fmt::Formatter<W>) -> fmt::Result {
+        match self {
+            ScriptKind::Utf8 { at } => write!(f, "utf8 at {at}"),
+            ScriptKind::Token { at } => write!(f, "token at {at}"),
+            ScriptKind::Number { at } => write!(f, "number at {at}"),
+            ScriptKind::Shape => f.write_str("shape"),
+            ScriptKind::Deep => f.write_str("deep"),
+            ScriptKind::Twice { node } => write!(f, "twice at node {}", node.0),
+            ScriptKind::Stray { node } => write!(f, "stray at node {}", node.0),
+            ScriptKind::BadTarget { node } => write!(f, "target at node {}", node.0),
+        }
+    }
+}
+
+/// The text that is too long.
+#[derive(Clone, Copy, Debug, PartialEq, Eq)]
+pub enum Which {
+    /// The left script, which is the one that `check` reads.
+    Left,
 }
 
 /// How a call of [`serve`](crate::serve) ended.
@@ -29,6 +67,8 @@ pub enum Status {
     WriteFault,
     /// The script of that side is refused.
     BadScript { side: Side, kind: ScriptKind },
+    /// That text has too many bytes.
+    TooLong(Which),
     /// Memory ran out.
     NoMemory,
 }
@@ -55,6 +95,7 @@ impl Status {
             Status::ReadFault => 3,
             Status::WriteFault => 4,
             Status::BadScript { .. } => 5,
+            Status::TooLong(_) => 8,
             Status::NoMemory => 9,
         }
     }

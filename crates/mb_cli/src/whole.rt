@@ -1,5 +1,5 @@
 // A whole text of a library.
-ghost use Rattle.std.specs.Prelude.{◌≡◌, ◌≢◌, ◌≤◌, ◌⊎◌, ℕ, List, Err, Some, IsSome, IsTrue, IfOk, IfErr, IfSome, vec_len};
+ghost use Rattle.std.specs.Prelude.{◌≡◌, ◌≢◌, ◌≤◌, ◌⊎◌, ◌<◌, ℕ, List, Err, Some, IsSome, IsTrue, IfOk, IfErr, IfSome, vec_len};
 ghost use Rattle.mb_outer.specs.Causes.{Rose};
 ghost use Rattle.mb_outer.specs.Shelf.{Shelf, held};
 ghost use Rattle.mb_cli.specs.Whole.{IsWhole, IsReadUpTo};
@@ -8,21 +8,20 @@ use crate::status::Status;
 use mb_outer::{Got, Library, Start};
 use std::alloc::Global;
 
-// The most bytes of a script.
-const LONGEST: usize = 65_536;
-
-// Reads the text of that name to its end, or to one byte more than a script may have: then there is no text.
+// Reads the text of that name to its end, or to one byte more than it may have: then there is no text.
 pub fn read_whole<L: Library>(
     alloc: Global,
     library: &mut L,
     name: &str,
+    most: usize,
 ) -> Result<Option<Vec<u8>>, Status>
+    requires { most < usize.MAX }
     ensures shelf { L.shelf library.new ≡ L.shelf library.old }
     ensures sound { IsTrue (L.sound library.old) → IsTrue (L.sound library.new) }
-    ensures whole { (s : Shelf) → L.shelf library.old ≡ Some s → IfOk result (IsWhole (held name.now s)) }
-    ensures within { IfOk result (λ text. IfSome text (λ bytes. vec_len bytes ≤ LONGEST)) }
+    ensures whole { (s : Shelf) → L.shelf library.old ≡ Some s → IfOk result (IsWhole most (held name.now s)) }
+    ensures within { IfOk result (λ text. IfSome text (λ bytes. vec_len bytes ≤ most)) }
     ensures further { (s : Shelf) (rest : List ℕ) → L.shelf library.old ≡ Some s → L.rest library.new ≡ Some rest
-        → IfOk result (λ _. IsReadUpTo s name.now rest) }
+        → IfOk result (λ _. IsReadUpTo most s name.now rest) }
     ensures causes { IfErr result (λ status. (status ≡ Status.ReadFault) ⊎ (status ≡ Status.NoMemory)) }
     ensures later { L.faults library.old ≤ L.faults library.new }
     ensures failed { result ≡ Err Status.ReadFault → Rose (L.faults library.old) (L.faults library.new) }
@@ -36,9 +35,9 @@ pub fn read_whole<L: Library>(
     }
     let mut text = Vec::new(alloc);
     let mut piece = [0u8; 4096];
-    while text.len() <= LONGEST {
-        let most = piece.len().min(LONGEST + 1 - text.len());
-        let buffer = &mut piece[..most];
+    while text.len() <= most {
+        let count = piece.len().min(most + 1 - text.len());
+        let buffer = &mut piece[..count];
         match library.read(buffer) {
             Got::Failed => return Err(Status::ReadFault),
             Got::Bytes(0) => return Ok(Some(text)),

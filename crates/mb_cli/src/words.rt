@@ -1,13 +1,13 @@
 // The words of a command line.
-ghost use Rattle.std.specs.Prelude.{◌≡◌, ◌&&◌, map, string_bytes, Some, None, MatchOption};
-ghost use Rattle.mb_cli.specs.Settings.{settings_of};
+ghost use Rattle.std.specs.Prelude.{◌≡◌, map, string_bytes, Some, None, MatchOption};
+ghost use Rattle.mb_cli.specs.Settings.{settings_of, meant_by};
 ghost use Rattle.mb_cli.specs.Settings.{is_operand as operand};
 
-// The names of the two scripts.
+// A command with the names of its files.
 #[derive(Clone, Copy)]
-pub struct ScriptNames<'a> {
-    pub left: &'a str,
-    pub right: &'a str,
+pub enum Command<'a> {
+    Run { left: &'a str, right: &'a str },
+    Check { file: &'a str },
 }
 
 // Whether the word may stand for a file: it isn't empty and is no option.
@@ -21,15 +21,20 @@ fn is_operand(word: &str) -> bool
 }
 
 // What the words behind the program's name ask for, where they are in order.
-pub fn settings(words: &[String]) -> Option<ScriptNames<'_>>
-    ensures { MatchOption result (settings_of (map string_bytes words.now) ≡ None) (λ s. settings_of (map string_bytes words.now) ≡ Some (s.left.now, s.right.now)) }
+pub fn command_of(words: &[String]) -> Option<Command<'_>>
+    ensures { MatchOption result (settings_of (map string_bytes words.now) ≡ None) (λ found. settings_of (map string_bytes words.now) ≡ Some (meant_by found)) }
 {
     match words {
+        [command, file] if command.as_str() == "check" && is_operand(file.as_str()) => {
+            Some(Command::Check {
+                file: file.as_str(),
+            })
+        }
         [command, left, right]
             if command.as_str() == "run"
                 && is_operand(left.as_str())
                 && is_operand(right.as_str()) => {
-            Some(ScriptNames {
+            Some(Command::Run {
                 left: left.as_str(),
                 right: right.as_str(),
             })

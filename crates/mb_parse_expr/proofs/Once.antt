@@ -4,7 +4,7 @@ use Rattle.mb_token.specs.declared.token.Spanned.{Spanned}
 use Rattle.mb_tree.specs.Roses.{Rose, none}
 use Rattle.mb_tree.specs.Operands.{size, pushed, Gathered, Short, Got, gather}
 use Rattle.mb_parse_expr.specs.declared.machine.Level.{Level}
-use Rattle.mb_parse_expr.specs.declared.machine.Label.{Label}
+use Rattle.mb_tree.specs.declared.tree.Label.{Label}
 use Rattle.mb_parse_expr.specs.declared.machine.Frame.{Frame}
 use Rattle.mb_parse_expr.specs.declared.machine.Mode.{Mode}
 use Rattle.mb_parse_expr.specs.declared.machine.Mode.TheVariants as mo

@@ -8,7 +8,7 @@ use Rattle.mb_tree.specs.Roses.{Rose, Roses, node, none, Shape, shape, id_of, ro
 use Rattle.mb_tree.specs.Operands.{size, pushed, written, places, Gathered, Short, Got, gather}
 use Rattle.mb_tree.proofs.Written.{root_write, root_least, roots_length, places_length, gather_written, gather_places, gather_size, pushed_written, pushed_places}
 use Rattle.mb_parse_expr.specs.declared.machine.Level.{Level}
-use Rattle.mb_parse_expr.specs.declared.machine.Label.{Label}
+use Rattle.mb_tree.specs.declared.tree.Label.{Label}
 use Rattle.mb_parse_expr.specs.declared.machine.Frame.{Frame}
 use Rattle.mb_parse_expr.specs.declared.machine.Frame.TheVariants as f
 use Rattle.mb_parse_expr.specs.declared.machine.Mode.{Mode}
@@ -17,7 +17,7 @@ use Rattle.mb_parse_expr.specs.declared.machine.Move.{Move}
 use Rattle.mb_parse_expr.specs.declared.machine.Move.TheVariants.{Leaf, Enter, Begin, Swap, Build, Suffix, Turn, Pause, Ended, Wrong}
 use Rattle.mb_parse_expr.specs.declared.role.Role.TheVariants as r
 use Rattle.mb_parse_expr.specs.Roles.{token_at, role_at, fresh_at, RoleAt}
-use Rattle.mb_parse_expr.specs.Grammar.{told, Statements}
+use Rattle.mb_parse_expr.specs.Grammar.{Statements}
 use Rattle.mb_parse_expr.specs.Machine.{ahead_at, follow_at, move_of, Going, Waits, Ends, Fails, built, laid, top, below, apply, move_at, Leads, here, after, answered}
 use Rattle.mb_parse_expr.specs.Covers.{bottom, blocked}
 use Rattle.mb_parse_expr.specs.Reads as reads
@@ -66,23 +66,23 @@ module _ {ts : List Spanned} {level : Level} {start : ℕ} {base : List Shape} {
   stepped : (move : Move) → Chosen ts frames mode at move → Progress ts level start (apply move h.fs h.rs ds at)
   stepped move c = progress_step ts level start h.fs h.rs ds mode at move (chosen_is c h.fs h.frames_are) h.progress
 
-  pub reading_leaf : (label : Label) (mode' : Mode) (ids' : List NodeId) (shapes' : List Shape) → Chosen ts frames mode at (Leaf label mode') → ids' ≡ ids ++ id_of (length shapes) ∷ [] → shapes' ≡ shapes ++ shape (told label) [] ∷ [] → Reading ts level start base ds frames mode' (at + 1) ids' shapes'
+  pub reading_leaf : (label : Label) (mode' : Mode) (ids' : List NodeId) (shapes' : List Shape) → Chosen ts frames mode at (Leaf label mode') → ids' ≡ ids ++ id_of (length shapes) ∷ [] → shapes' ≡ shapes ++ shape label [] ∷ [] → Reading ts level start base ds frames mode' (at + 1) ids' shapes'
   reading_leaf label mode' ids' shapes' c i s = record {
     fs = h.fs;
-    rs = node (told label) none ∷ h.rs;
+    rs = node label none ∷ h.rs;
     frames_are = h.frames_are;
     ids_are = i ∙ ap (λ x. x ++ id_of (length shapes) ∷ []) h.ids_are ∙ ap (λ x. places base h.rs ++ id_of (length x) ∷ []) h.shapes_are;
-    shapes_are = s ∙ ap (λ x. x ++ shape (told label) [] ∷ []) h.shapes_are;
+    shapes_are = s ∙ ap (λ x. x ++ shape label [] ∷ []) h.shapes_are;
     progress = stepped (Leaf label mode') c;
   }
 
-  pub reading_begin : (label : Label) (frame : Frame) (mode' : Mode) (frames' : List Frame) (ids' : List NodeId) (shapes' : List Shape) → Chosen ts frames mode at (Begin label frame mode') → frames' ≡ frames ++ frame ∷ [] → ids' ≡ ids ++ id_of (length shapes) ∷ [] → shapes' ≡ shapes ++ shape (told label) [] ∷ [] → Reading ts level start base ds frames' mode' (at + 1) ids' shapes'
+  pub reading_begin : (label : Label) (frame : Frame) (mode' : Mode) (frames' : List Frame) (ids' : List NodeId) (shapes' : List Shape) → Chosen ts frames mode at (Begin label frame mode') → frames' ≡ frames ++ frame ∷ [] → ids' ≡ ids ++ id_of (length shapes) ∷ [] → shapes' ≡ shapes ++ shape label [] ∷ [] → Reading ts level start base ds frames' mode' (at + 1) ids' shapes'
   reading_begin label frame mode' frames' ids' shapes' c fe i s = record {
     fs = frame ∷ h.fs;
-    rs = node (told label) none ∷ h.rs;
+    rs = node label none ∷ h.rs;
     frames_are = fe ∙ ap (λ x. x ++ frame ∷ []) h.frames_are;
     ids_are = i ∙ ap (λ x. x ++ id_of (length shapes) ∷ []) h.ids_are ∙ ap (λ x. places base h.rs ++ id_of (length x) ∷ []) h.shapes_are;
-    shapes_are = s ∙ ap (λ x. x ++ shape (told label) [] ∷ []) h.shapes_are;
+    shapes_are = s ∙ ap (λ x. x ++ shape label [] ∷ []) h.shapes_are;
     progress = stepped (Begin label frame mode') c;
   }
 
@@ -133,7 +133,7 @@ pub record Built (ts : List Spanned) (level : Level) (start : ℕ) (base : List 
   pub kids : List NodeId
   pub ids_are : ids ≡ front ++ kids
   pub count : length kids ≡ n
-  pub next : (frames : List Frame) (ids' : List NodeId) (shapes' : List Shape) → frames ≡ laid fs → ids' ≡ front ++ id_of (length shapes) ∷ [] → shapes' ≡ shapes ++ shape (told label) kids ∷ [] → Reading ts level start base ds frames mode at ids' shapes'
+  pub next : (frames : List Frame) (ids' : List NodeId) (shapes' : List Shape) → frames ≡ laid fs → ids' ≡ front ++ id_of (length shapes) ∷ [] → shapes' ≡ shapes ++ shape label kids ∷ [] → Reading ts level start base ds frames mode at ids' shapes'
 
 make : (ts : List Spanned) (level : Level) (start : ℕ) (base : List Shape) (ds : List ℕ) (ids : List NodeId) (shapes : List Shape) (label : Label) (n : ℕ) (mode : Mode) (fs : List Frame) (rs : List Rose) (at : ℕ) → ids ≡ places base rs → shapes ≡ written base rs → Progress ts level start (built label mode fs ds at (gather n rs none)) → Built ts level start base ds ids shapes label n mode fs at
 make ts level start base ds ids shapes label n mode fs rs at i s p = each (gather n rs none) refl p
@@ -149,10 +149,10 @@ make ts level start base ds ids shapes label n mode fs rs at i s p = each (gathe
           count = roots_length (written base rest) parts ∙ gather_size n rs rest none parts e ∙ omega arith;
           next = λ frames ids' shapes' fe ie se. record {
             fs = fs;
-            rs = node (told label) parts ∷ rest;
+            rs = node label parts ∷ rest;
             frames_are = fe;
             ids_are = ie ∙ ap (λ x. places base rest ++ id_of (length x) ∷ []) (s ∙ w);
-            shapes_are = se ∙ ap (λ x. x ++ shape (told label) (roots (written base rest) parts) ∷ []) (s ∙ w);
+            shapes_are = se ∙ ap (λ x. x ++ shape label (roots (written base rest) parts) ∷ []) (s ∙ w);
             progress = q;
           };
         }

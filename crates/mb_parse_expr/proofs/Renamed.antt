@@ -23,7 +23,7 @@ use Rattle.mb_parse_expr.specs.declared.machine.Property.{Property}
 use Rattle.mb_parse_expr.specs.declared.machine.Maker.{Maker}
 use Rattle.mb_parse_expr.specs.declared.machine.Maker.TheVariants as mk
 use Rattle.mb_parse_expr.specs.Roles.{word_role, mark_role, role_of, token_of, line_of, token_at, role_at, fresh_at, RoleAt, NoRoleAt, SameLine, TokenAt, WordAt}
-use Rattle.mb_parse_expr.specs.Grammar.{told, value_label, made_label, IsFunction, IsProperty, WordText, name, soft, reserved, GetAt, SetAt, Names, last_name, name_and, Params, no_params, params, params_comma, MakerParams, of_function, of_method, of_getter, of_setter, Head, one, many, Stands, lift, left_new, left_call, new_member, seq, assign, compound, arrow_value, arrow_block, cond, or, and_also, binary, unary, negative, before, behind, new_new, new_args, member, index, call, this, name_of, number, text, literal, array, object, function, group, Listed, last_of, then_of, Elements, nothing, elements, elements_comma, KeyOf, key_word, key_text, key_number, key_computed, Before, unnamed, with_name, method, getter, setter, Made, made, PropertyOf, valued, shorthand, maker_of, PropertyList, last_property, then_property, Properties, no_property, properties, properties_comma, Declarations, last_declared, then_declared, Declared, declared, declared_as, Lets, lets, BlockOf, block, Perhaps, absent, present, ForFirst, first_lets, first_expression, Caught, no_catch, catch_all, catch_named, Finally, no_finally, finally, Sub, sub_block, empty, expression, if_then, if_else, while_do, do_while, for_loop, returns, returns_with, throw, break, continue, try, Statement, sub, let_statement, const, declaration, Statements, finished, statement}
+use Rattle.mb_parse_expr.specs.Grammar.{value_label, made_label, IsFunction, IsProperty, WordText, name, soft, reserved, GetAt, SetAt, Names, last_name, name_and, Params, no_params, params, params_comma, MakerParams, of_function, of_method, of_getter, of_setter, Head, one, many, Stands, lift, left_new, left_call, new_member, seq, assign, compound, arrow_value, arrow_block, cond, or, and_also, binary, unary, negative, before, behind, new_new, new_args, member, index, call, this, name_of, number, text, literal, array, object, function, group, Listed, last_of, then_of, Elements, nothing, elements, elements_comma, KeyOf, key_word, key_text, key_number, key_computed, Before, unnamed, with_name, method, getter, setter, Made, made, PropertyOf, valued, shorthand, maker_of, PropertyList, last_property, then_property, Properties, no_property, properties, properties_comma, Declarations, last_declared, then_declared, Declared, declared, declared_as, Lets, lets, BlockOf, block, Perhaps, absent, present, ForFirst, first_lets, first_expression, Caught, no_catch, catch_all, catch_named, Finally, no_finally, finally, Sub, sub_block, empty, expression, if_then, if_else, while_do, do_while, for_loop, returns, returns_with, throw, break, continue, try, Statement, sub, let_statement, const, declaration, Statements, finished, statement}
 use Rattle.mb_parse_expr.specs.Renaming.{renamed_name, renamed_token, renamed_spanned, renamed_tokens, renamed_label, renamed, renamed_all, renamed_shape}
 
 -- trees
@@ -140,7 +140,7 @@ renamed_maker f (mk.Method p) = mk.Method (renamed_property f p)
 renamed_maker f (mk.Getter p) = mk.Getter (renamed_property f p)
 renamed_maker f (mk.Setter p) = mk.Setter (renamed_property f p)
 
-made_renamed : (f : StrId → StrId) (maker : Maker) (n : ℕ) → told (made_label (renamed_maker f maker) n) ≡ renamed_label f (told (made_label maker n))
+made_renamed : (f : StrId → StrId) (maker : Maker) (n : ℕ) → (made_label (renamed_maker f maker) n) ≡ renamed_label f (made_label maker n)
 made_renamed f mk.Arrow n = refl
 made_renamed f (mk.Function x) n = refl
 made_renamed f (mk.Method p) n = refl
@@ -288,13 +288,13 @@ module _ (f : StrId → StrId) (ts : List Spanned) where
     made_of_renamed : {maker : Maker} {a : Rose} {ds es : List ℕ} {i j : ℕ} → Made ts maker a ds es i j → Made (renamed_tokens f ts) (renamed_maker f maker) (renamed f a) ds es i j
     made_of_renamed (made {maker = maker} {keys = keys} {parts = parts} {body = body} {ds = ds} {es = es} {i = i} {n = n} {j = j} b o p c u q e) =
         subst (λ x. Made (renamed_tokens f ts) (renamed_maker f maker) x ds ((n + 1 + 1) ∷ es) i (j + 1))
-        (ap₂ node (made_renamed f maker (size (renamed_all f parts)) ∙ ap (λ x. renamed_label f (told (made_label maker x))) (size_renamed f parts))
+        (ap₂ node (made_renamed f maker (size (renamed_all f parts)) ∙ ap (λ x. renamed_label f (made_label maker x)) (size_renamed f parts))
         (sym (join_renamed f keys (join parts body) ∙ ap (join (renamed_all f keys)) (join_renamed f parts body))))
         (made (before_renamed b) (role o) (maker_params p) (role c) (role u) (statements_renamed q) (role e))
 
     property_of_renamed : {a : Rose} {ds es : List ℕ} {i j : ℕ} → PropertyOf ts a ds es i j → PropertyOf (renamed_tokens f ts) (renamed f a) ds es i j
     property_of_renamed (valued {p = p} {keys = keys} {a = a} {ds = ds} {gs = gs} {i = i} {j = j} q c v) =
-        subst (λ x. PropertyOf (renamed_tokens f ts) (node (told (value_label (renamed_property f p))) x) ds gs i j) (sym (join_renamed f keys (more a none))) (valued (key_renamed q) (role c) (stands_renamed v))
+        subst (λ x. PropertyOf (renamed_tokens f ts) (node (value_label (renamed_property f p)) x) ds gs i j) (sym (join_renamed f keys (more a none))) (valued (key_renamed q) (role c) (stands_renamed v))
     property_of_renamed (shorthand n) = shorthand (role n)
     property_of_renamed (maker_of {maker = maker} h q) = maker_of (property_renamed f maker h) (made_of_renamed q)
 

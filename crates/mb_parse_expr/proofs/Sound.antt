@@ -23,7 +23,7 @@ use Rattle.mb_parse_expr.specs.declared.role.Follow.{Follow}
 use Rattle.mb_parse_expr.specs.declared.role.Follow.TheVariants as fo
 use Rattle.mb_parse_expr.specs.declared.machine.Level.{Level}
 use Rattle.mb_parse_expr.specs.declared.machine.Level.TheVariants as lv
-use Rattle.mb_parse_expr.specs.declared.machine.Label.{Label}
+use Rattle.mb_tree.specs.declared.tree.Label.{Label}
 use Rattle.mb_parse_expr.specs.declared.machine.Property.{Property}
 use Rattle.mb_parse_expr.specs.declared.machine.Maker.{Maker}
 use Rattle.mb_parse_expr.specs.declared.machine.Maker.TheVariants as mk
@@ -34,7 +34,7 @@ use Rattle.mb_parse_expr.specs.declared.machine.Mode.TheVariants as mo
 use Rattle.mb_parse_expr.specs.declared.machine.Mode.TheVariants.{Operand, Body, After, Block}
 use Rattle.mb_parse_expr.specs.declared.machine.Move.TheVariants.{Swap, Build, Suffix, Wrong}
 use Rattle.mb_parse_expr.specs.Roles.{role_of, follow_of, token_at, role_at, fresh_at, RoleAt, NoRoleAt, SameLine}
-use Rattle.mb_parse_expr.specs.Grammar.{level_of, plain, titled, told, named_property, value_label, made_label, WordText, name, soft, reserved, GetAt, SetAt, param, Names, last_name, name_and, Params, no_params, params, params_comma, MakerParams, of_function, of_method, of_getter, of_setter, Head, one, many, Stands, lift, left_new, left_call, new_member, seq, assign, compound, arrow_value, arrow_block, cond, or, and_also, binary, unary, negative, before, behind, new_new, new_args, member, index, call, this, name_of, number, text, literal, array, object, function, group, Listed, last_of, then_of, Elements, nothing, elements, elements_comma, KeyOf, key_word, key_text, key_number, key_computed, Before, unnamed, with_name, method, getter, setter, Made, made, PropertyOf, valued, shorthand, maker_of, PropertyList, last_property, then_property, Properties, no_property, properties, properties_comma, Statements}
+use Rattle.mb_parse_expr.specs.Grammar.{level_of, plain, titled, named_property, value_label, made_label, WordText, name, soft, reserved, GetAt, SetAt, param, Names, last_name, name_and, Params, no_params, params, params_comma, MakerParams, of_function, of_method, of_getter, of_setter, Head, one, many, Stands, lift, left_new, left_call, new_member, seq, assign, compound, arrow_value, arrow_block, cond, or, and_also, binary, unary, negative, before, behind, new_new, new_args, member, index, call, this, name_of, number, text, literal, array, object, function, group, Listed, last_of, then_of, Elements, nothing, elements, elements_comma, KeyOf, key_word, key_text, key_number, key_computed, Before, unnamed, with_name, method, getter, setter, Made, made, PropertyOf, valued, shorthand, maker_of, PropertyList, last_property, then_property, Properties, no_property, properties, properties_comma, Statements}
 use Rattle.mb_parse_expr.specs.Machine.{extra_of, made_extra, made_mode, hole, strength, least_before, value_move, taken_move, end_move, close_move, params_move, param_move, comma_move, head_move, block_move, title_move, open_move, brace_move, property_move, key_move, keyed_move, item_move, word_move, name_move, body_move, ahead_at, follow_at, Going, built, top, apply, move_at}
 use Rattle.mb_parse_expr.proofs.Steps.{level_bound, hole_range, sign_range, key_size, before_size, made_gathers, valued_gathers, no_brace}
 use Rattle.mb_parse_expr.specs.Covers.{IsListing, Commas, no_comma, comma_more, PropertyCommas, no_property_yet, property_more, NameCommas, no_name, name_more, Opening, opening, arrow_opening, Spine, bottom, in_infix, in_or, in_and, in_becomes, in_compound, in_test, in_choice, in_unary, in_negative, in_before, in_new, in_group, in_index, in_args, in_new_args, in_array, in_seq, in_arrow, in_value, in_computed, in_computed_get, in_computed_set, Objects, in_object, Under, under_arrow, under_function, under_method, under_getter, under_setter, Titled, title_read, Headed, headed, InParams, in_params, InComma, in_comma, InHead, in_head, Arrowed, arrowed, Ready, ready_arrow, ready_made, Braced, braced, Blocked, blocked, Dotted, dotted, Accessing, getting, setting, KeyRead, key_read, ItemRead, item_read, Behind, behind_operand, behind_short, IsEnd, Good}
@@ -173,7 +173,7 @@ names_params {ts = ts} {n = n} {i = i} {k = k} {j = j} {x = x} c w q =
     record { parts = p.parts; listed = subst (λ z. Params ts p.parts i z) (sym q) (params p.listed); stack = p.stack; count = omega (arith, p.count) }
 
 module _ (ts : List Spanned) (lvl : Level) (start : ℕ) where
-  good_built : (label : Label) (mode : Mode) (fs : List Frame) (rs : List Rose) (ds : List ℕ) (at : ℕ) (got : Gathered) (parts : Roses) → got ≡ Got parts rs → Good ts lvl start (Going fs (node (told label) parts ∷ rs) ds mode at) → Good ts lvl start (built label mode fs ds at got)
+  good_built : (label : Label) (mode : Mode) (fs : List Frame) (rs : List Rose) (ds : List ℕ) (at : ℕ) (got : Gathered) (parts : Roses) → got ≡ Got parts rs → Good ts lvl start (Going fs (node label parts ∷ rs) ds mode at) → Good ts lvl start (built label mode fs ds at got)
   good_built label mode fs rs ds at got parts e b = subst (λ g. Good ts lvl start (built label mode fs ds at g)) (sym e) b
 
   -- an operand begins
@@ -391,7 +391,7 @@ module _ (ts : List Spanned) (lvl : Level) (start : ℕ) where
 
   good_short : (n : StrId) (fs : List Frame) (rs : List Rose) (ds : List ℕ) (i l at : ℕ) (role : Role) → Objects ts lvl start fs rs ds i → RoleAt ts i (r.Name n) → at ≡ i + 1 → Good ts lvl start (apply (close_move (Some (f.Value (named_property n))) l role) (f.Value (named_property n) ∷ fs) (node (named kd.Name n) none ∷ rs) ds at)
   good_short n fs rs ds i l at role ob o k =
-      subst (λ z. ItemRead ts lvl start fs (node (told (value_label (named_property n))) (more (node (named kd.Name n) none) none) ∷ rs) ds z) (sym k) (item_read ob (shorthand o))
+      subst (λ z. ItemRead ts lvl start fs (node (value_label (named_property n)) (more (node (named kd.Name n) none) none) ∷ rs) ds z) (sym k) (item_read ob (shorthand o))
 
   good_close : {fs : List Frame} {rs : List Rose} {ds : List ℕ} {l at : ℕ} (role : Role) → role_at ts at ≡ role → hole (top fs) ≤ l → Behind ts lvl start fs rs ds l at → Good ts lvl start (apply (close_move (top fs) l role) fs rs ds at)
   good_close {l = l} {at = at} role e h (behind_operand {a = a} {es = es} sp st) = good_close_at a es l at role e h st sp
@@ -560,12 +560,12 @@ module _ (ts : List Spanned) (lvl : Level) (start : ℕ) where
   block_made (under_getter ob) d = item_read ob (maker_of tt d)
   block_made (under_setter ob) d = item_read ob (maker_of tt d)
 
-  made_at : (maker : Maker) (n : ℕ) (keys parts body : Roses) (ds es gs : List ℕ) (i m j k l o at : ℕ) → Before ts maker keys ds es i m → RoleAt ts m r.Open → MakerParams ts maker parts (m + 1) j → RoleAt ts j r.Close → n ≡ size parts → k ≡ j + 1 → RoleAt ts k r.OpenBrace → l ≡ k + 1 → gs ≡ l ∷ es → Statements ts body l o → RoleAt ts o r.CloseBrace → at ≡ o + 1 → Made ts maker (node (told (made_label maker n)) (join keys (join parts body))) ds gs i at
+  made_at : (maker : Maker) (n : ℕ) (keys parts body : Roses) (ds es gs : List ℕ) (i m j k l o at : ℕ) → Before ts maker keys ds es i m → RoleAt ts m r.Open → MakerParams ts maker parts (m + 1) j → RoleAt ts j r.Close → n ≡ size parts → k ≡ j + 1 → RoleAt ts k r.OpenBrace → l ≡ k + 1 → gs ≡ l ∷ es → Statements ts body l o → RoleAt ts o r.CloseBrace → at ≡ o + 1 → Made ts maker (node (made_label maker n) (join keys (join parts body))) ds gs i at
   made_at maker n keys parts body ds es gs i m j k l o at b u p c cn ek e el eg st cb z =
       let place : l ≡ j + 1 + 1 = el ∙ ap (λ y. y + 1) ek in
-      subst (λ y. Made ts maker (node (told (made_label maker y)) (join keys (join parts body))) ds gs i at) (sym cn)
-      (subst (λ y. Made ts maker (node (told (made_label maker (size parts))) (join keys (join parts body))) ds gs i y) (sym z)
-      (subst (λ y. Made ts maker (node (told (made_label maker (size parts))) (join keys (join parts body))) ds y i (o + 1)) (sym (eg ∙ ap (λ y. y ∷ es) place))
+      subst (λ y. Made ts maker (node (made_label maker y) (join keys (join parts body))) ds gs i at) (sym cn)
+      (subst (λ y. Made ts maker (node (made_label maker (size parts)) (join keys (join parts body))) ds gs i y) (sym z)
+      (subst (λ y. Made ts maker (node (made_label maker (size parts)) (join keys (join parts body))) ds y i (o + 1)) (sym (eg ∙ ap (λ y. y ∷ es) place))
       (made b u p c (role_from ts r.OpenBrace ek e) (subst (λ y. Statements ts body y o) place st) cb)))
 
   arrow_at : (n : ℕ) (parts body : Roses) (ds gs : List ℕ) (i m k l o at : ℕ) → Head ts parts i m → RoleAt ts m r.Arrow → SameLine ts m → n ≡ size parts → k ≡ m + 1 → RoleAt ts k r.OpenBrace → l ≡ k + 1 → gs ≡ l ∷ ds → Statements ts body l o → RoleAt ts o r.CloseBrace → at ≡ o + 1 → Stands ts 3 (node (bare (kd.Arrow n true)) (join parts body)) ds gs i at

@@ -25,7 +25,7 @@ use Rattle.mb_parse_expr.specs.declared.role.Follow.{Follow}
 use Rattle.mb_parse_expr.specs.declared.role.Follow.TheVariants as fo
 use Rattle.mb_parse_expr.specs.declared.machine.Level.{Level}
 use Rattle.mb_parse_expr.specs.declared.machine.Level.TheVariants as lv
-use Rattle.mb_parse_expr.specs.declared.machine.Label.{Label}
+use Rattle.mb_tree.specs.declared.tree.Label.{Label}
 use Rattle.mb_parse_expr.specs.declared.machine.Property.{Property}
 use Rattle.mb_parse_expr.specs.declared.machine.Maker.{Maker}
 use Rattle.mb_parse_expr.specs.declared.machine.Maker.TheVariants as mk
@@ -37,7 +37,7 @@ use Rattle.mb_parse_expr.specs.declared.machine.Mode.TheVariants.{Operand, Body,
 use Rattle.mb_parse_expr.specs.declared.machine.Move.{Move}
 use Rattle.mb_parse_expr.specs.declared.machine.Move.TheVariants.{Leaf, Enter, Begin, Swap, Build, Suffix, Turn, Pause, Ended, Wrong}
 use Rattle.mb_parse_expr.specs.Roles.{word_role, mark_role, role_of, follow_of, token_at, role_at, fresh_at, RoleAt, NoRoleAt, SameLine}
-use Rattle.mb_parse_expr.specs.Grammar.{level_of, plain, titled, counted, told, named_property, whole_property, computed_property, value_label, made_label, IsFunction, IsProperty, WordText, name, soft, reserved, param, Names, last_name, name_and, Params, no_params, params, params_comma, MakerParams, of_function, of_method, of_getter, of_setter, Head, one, many, Stands, lift, left_new, left_call, new_member, seq, assign, compound, arrow_value, arrow_block, cond, or, and_also, binary, unary, negative, before, behind, new_new, new_args, member, index, call, this, name_of, number, text, literal, array, object, function, group, Listed, last_of, then_of, Elements, nothing, elements, elements_comma, KeyOf, key_word, key_text, key_number, key_computed, Before, unnamed, with_name, method, getter, setter, Made, made, PropertyOf, valued, shorthand, maker_of, PropertyList, last_property, then_property, Properties, no_property, properties, properties_comma, Statements}
+use Rattle.mb_parse_expr.specs.Grammar.{level_of, plain, titled, counted, named_property, whole_property, computed_property, value_label, made_label, IsFunction, IsProperty, WordText, name, soft, reserved, param, Names, last_name, name_and, Params, no_params, params, params_comma, MakerParams, of_function, of_method, of_getter, of_setter, Head, one, many, Stands, lift, left_new, left_call, new_member, seq, assign, compound, arrow_value, arrow_block, cond, or, and_also, binary, unary, negative, before, behind, new_new, new_args, member, index, call, this, name_of, number, text, literal, array, object, function, group, Listed, last_of, then_of, Elements, nothing, elements, elements_comma, KeyOf, key_word, key_text, key_number, key_computed, Before, unnamed, with_name, method, getter, setter, Made, made, PropertyOf, valued, shorthand, maker_of, PropertyList, last_property, then_property, Properties, no_property, properties, properties_comma, Statements}
 use Rattle.mb_parse_expr.specs.Machine.{extra_of, made_extra, made_mode, hole, strength, least_before, value_move, taken_move, accessor_move, close_move, after_move, param_move, comma_move, property_move, key_move, word_move, name_move, body_move, move_of, ahead_at, follow_at, State, Going, Ends, built, top, apply, move_at, Leads, here, after, answered}
 use Rattle.mb_parse_expr.specs.Covers.{IsEnd, least_of}
 use Rattle.mb_parse_expr.proofs.Ahead.{name_alone, group_alone, head_ahead}
@@ -352,12 +352,12 @@ module _ (ts : List Spanned) where
       (reads_params p q arrow_lists fs rs ds _ (arrow_step (size parts) fs (pushed parts rs) ds (j + 1) a l))
 
   -- a node that is built of what is gathered
-  at_built : (label : Label) (mode : Mode) (fs : List Frame) (rs : List Rose) (ds : List ℕ) (at : ℕ) (got : Gathered) (parts : Roses) → got ≡ Got parts rs → Leads ts (built label mode fs ds at got) (Going fs (node (told label) parts ∷ rs) ds mode at)
-  at_built label mode fs rs ds at got parts e = subst (λ g. Leads ts (built label mode fs ds at g) (Going fs (node (told label) parts ∷ rs) ds mode at)) (sym e) here
+  at_built : (label : Label) (mode : Mode) (fs : List Frame) (rs : List Rose) (ds : List ℕ) (at : ℕ) (got : Gathered) (parts : Roses) → got ≡ Got parts rs → Leads ts (built label mode fs ds at got) (Going fs (node label parts ∷ rs) ds mode at)
+  at_built label mode fs rs ds at got parts e = subst (λ g. Leads ts (built label mode fs ds at g) (Going fs (node label parts ∷ rs) ds mode at)) (sym e) here
 
   -- a body in braces, behind parameters
   reads_block : {maker : Maker} (keys parts : Roses) {body : Roses} {i j : ℕ} (mode : Mode) (fs : List Frame) (rs : List Rose) (ds : List ℕ) → made_extra maker ≡ size keys → ((ahead : Bool) (follow : Follow) → move_of (Some (f.Made maker (size parts))) mode (token_at ts i) r.OpenBrace (fresh_at ts i) ahead follow ≡ Pause) → RoleAt ts i r.OpenBrace → Statements ts body (i + 1) j → RoleAt ts j r.CloseBrace
-      → Leads ts (Going (f.Made maker (size parts) ∷ fs) (pushed parts (pushed keys rs)) ds mode i) (Going fs (node (told (made_label maker (size parts))) (join keys (join parts body)) ∷ rs) ((i + 1) ∷ ds) (made_mode maker) (j + 1))
+      → Leads ts (Going (f.Made maker (size parts) ∷ fs) (pushed parts (pushed keys rs)) ds mode i) (Going fs (node (made_label maker (size parts)) (join keys (join parts body)) ∷ rs) ((i + 1) ∷ ds) (made_mode maker) (j + 1))
   reads_block {maker = maker} keys parts {body = body} {i = i} {j = j} mode fs rs ds x p o b c =
       let n = size parts in
       go (f.Made maker n ∷ fs) (pushed parts (pushed keys rs)) ds mode i _ r.OpenBrace Pause o (p (ahead_at ts i) (follow_at ts i))
@@ -367,7 +367,7 @@ module _ (ts : List Spanned) where
 
   -- behind the opening parenthesis of what is made
   reads_rest : {maker : Maker} (keys : Roses) {parts body : Roses} {i n j : ℕ} → MakerParams ts maker parts i n → RoleAt ts n r.Close → RoleAt ts (n + 1) r.OpenBrace → Statements ts body (n + 1 + 1) j → RoleAt ts j r.CloseBrace → made_extra maker ≡ size keys → (fs : List Frame) (rs : List Rose) (ds : List ℕ)
-      → Leads ts (Going (f.Params maker 0 ∷ fs) (pushed keys rs) ds mo.Param i) (Going fs (node (told (made_label maker (size parts))) (join keys (join parts body)) ∷ rs) ((n + 1 + 1) ∷ ds) (made_mode maker) (j + 1))
+      → Leads ts (Going (f.Params maker 0 ∷ fs) (pushed keys rs) ds mo.Param i) (Going fs (node (made_label maker (size parts)) (join keys (join parts body)) ∷ rs) ((n + 1 + 1) ∷ ds) (made_mode maker) (j + 1))
   reads_rest keys (of_function {name = o} {parts = parts} p) c b s q x fs rs ds =
       reads_params p c (function_lists o) fs (pushed keys rs) ds _ (reads_block keys parts mo.Brace fs rs ds x (λ a g. refl) b s q)
   reads_rest keys (of_method {p = y} {parts = parts} p) c b s q x fs rs ds =

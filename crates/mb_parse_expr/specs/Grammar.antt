@@ -16,7 +16,7 @@ use Rattle.mb_tree.specs.Roses as tree
 use Rattle.mb_tree.specs.Roses.{Rose, Roses, node, none, more, bare, named}
 use Rattle.mb_tree.specs.Operands.{size, join}
 use Rattle.mb_parse_expr.specs.declared.role.Role.TheVariants as r
-use Rattle.mb_parse_expr.specs.declared.machine.Label.{Label}
+use Rattle.mb_tree.specs.declared.tree.Label.{Label}
 use Rattle.mb_parse_expr.specs.declared.machine.Property.{Property}
 use Rattle.mb_parse_expr.specs.declared.machine.Maker.{Maker}
 use Rattle.mb_parse_expr.specs.declared.machine.Maker.TheVariants as mk
@@ -41,16 +41,13 @@ level_of _ = 13
 -- labels
 
 abbrev pub plain : Kind → Label
-plain k = record { kind = k; name = None; whole = pos 0 }
+plain k = bare k
 
 abbrev pub titled : Kind → StrId → Label
-titled k n = record { kind = k; name = Some n; whole = pos 0 }
+titled k n = named k n
 
 abbrev pub counted : ℤ → Label
-counted z = record { kind = k.Number; name = None; whole = z }
-
-abbrev pub told : Label → tree.Label
-told l = record { kind = l.kind; name = l.name; whole = l.whole }
+counted z = tree.numbered k.Number z
 
 abbrev pub named_property : StrId → Property
 named_property n = record { key = pk.Named; name = Some n; whole = pos 0 }
@@ -189,11 +186,11 @@ mutual
   -- a function, method, getter or setter
   pub data Made (ts : List Spanned) : Maker → Rose → List ℕ → List ℕ → ℕ → ℕ → Type 0 where
     made : {maker : Maker} {keys parts body : Roses} {ds es : List ℕ} {i m n j : ℕ} → Before ts maker keys ds es i m → RoleAt ts m r.Open → MakerParams ts maker parts (m + 1) n → RoleAt ts n r.Close → RoleAt ts (n + 1) r.OpenBrace → Statements ts body (n + 1 + 1) j → RoleAt ts j r.CloseBrace
-        → Made ts maker (node (told (made_label maker (size parts))) (join keys (join parts body))) ds ((n + 1 + 1) ∷ es) i (j + 1)
+        → Made ts maker (node (made_label maker (size parts)) (join keys (join parts body))) ds ((n + 1 + 1) ∷ es) i (j + 1)
 
   pub data PropertyOf (ts : List Spanned) : Rose → List ℕ → List ℕ → ℕ → ℕ → Type 0 where
-    valued : {p : Property} {keys : Roses} {a : Rose} {ds es gs : List ℕ} {i m j : ℕ} → KeyOf ts p keys ds es i m → RoleAt ts m r.Colon → Stands ts 3 a es gs (m + 1) j → PropertyOf ts (node (told (value_label p)) (join keys (more a none))) ds gs i j
-    shorthand : {n : StrId} {ds : List ℕ} {i : ℕ} → RoleAt ts i (r.Name n) → PropertyOf ts (node (told (value_label (named_property n))) (more (node (named k.Name n) none) none)) ds ds i (i + 1)
+    valued : {p : Property} {keys : Roses} {a : Rose} {ds es gs : List ℕ} {i m j : ℕ} → KeyOf ts p keys ds es i m → RoleAt ts m r.Colon → Stands ts 3 a es gs (m + 1) j → PropertyOf ts (node (value_label p) (join keys (more a none))) ds gs i j
+    shorthand : {n : StrId} {ds : List ℕ} {i : ℕ} → RoleAt ts i (r.Name n) → PropertyOf ts (node (value_label (named_property n)) (more (node (named k.Name n) none) none)) ds ds i (i + 1)
     maker_of : {maker : Maker} {a : Rose} {ds es : List ℕ} {i j : ℕ} → IsProperty maker → Made ts maker a ds es i j → PropertyOf ts a ds es i j
 
   pub data PropertyList (ts : List Spanned) : Roses → List ℕ → List ℕ → ℕ → ℕ → Type 0 where

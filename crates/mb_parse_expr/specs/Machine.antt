@@ -12,8 +12,7 @@ use Rattle.mb_tree.specs.declared.kind.Kind.TheVariants as k
 use Rattle.mb_tree.specs.declared.kind.PropKey.TheVariants as pk
 use Rattle.mb_tree.specs.declared.kind.Sign.{Sign}
 use Rattle.mb_tree.specs.declared.kind.Sign.TheVariants as s
-use Rattle.mb_tree.specs.Roses as tree
-use Rattle.mb_tree.specs.Roses.{Rose, Roses, node, none, more}
+use Rattle.mb_tree.specs.Roses.{Rose, Roses, node, none}
 use Rattle.mb_tree.specs.Operands.{size, pushed, Gathered, Short, Got, gather}
 use Rattle.mb_parse_expr.specs.declared.role.Role.{Role}
 use Rattle.mb_parse_expr.specs.declared.role.Role.TheVariants as r
@@ -21,7 +20,7 @@ use Rattle.mb_parse_expr.specs.declared.role.Follow.{Follow}
 use Rattle.mb_parse_expr.specs.declared.role.Follow.TheVariants as fo
 use Rattle.mb_parse_expr.specs.declared.machine.Level.{Level}
 use Rattle.mb_parse_expr.specs.declared.machine.Level.TheVariants as lv
-use Rattle.mb_parse_expr.specs.declared.machine.Label.{Label}
+use Rattle.mb_tree.specs.declared.tree.Label.{Label}
 use Rattle.mb_parse_expr.specs.declared.machine.Property.{Property}
 use Rattle.mb_parse_expr.specs.declared.machine.Maker.{Maker}
 use Rattle.mb_parse_expr.specs.declared.machine.Maker.TheVariants as mk
@@ -368,12 +367,9 @@ pub data State : Type 0 where
   -- never
   Stuck : State
 
-abbrev pub told : Label → tree.Label
-told = grammar.told
-
 abbrev pub built : Label → Mode → List Frame → List ℕ → ℕ → Gathered → State
 built label mode fs ds at Short = Stuck
-built label mode fs ds at (Got parts rs) = Going fs (node (told label) parts ∷ rs) ds mode at
+built label mode fs ds at (Got parts rs) = Going fs (node label parts ∷ rs) ds mode at
 
 abbrev pub top : List Frame → Option Frame
 top [] = None
@@ -389,9 +385,9 @@ below [] = []
 below (f ∷ fs) = fs
 
 abbrev pub apply : Move → List Frame → List Rose → List ℕ → ℕ → State
-apply (Leaf label mode) fs rs ds at = Going fs (node (told label) none ∷ rs) ds mode (at + 1)
+apply (Leaf label mode) fs rs ds at = Going fs (node label none ∷ rs) ds mode (at + 1)
 apply (Enter f mode) fs rs ds at = Going (f ∷ fs) rs ds mode (at + 1)
-apply (Begin label f mode) fs rs ds at = Going (f ∷ fs) (node (told label) none ∷ rs) ds mode (at + 1)
+apply (Begin label f mode) fs rs ds at = Going (f ∷ fs) (node label none ∷ rs) ds mode (at + 1)
 apply (Swap f mode) fs rs ds at = Going (f ∷ below fs) rs ds mode (at + 1)
 apply (Build label n mode taken) [] rs ds at = Stuck
 apply (Build label n mode taken) (f ∷ fs) rs ds at = built label mode fs ds (if taken then at + 1 else at) (gather n rs none)

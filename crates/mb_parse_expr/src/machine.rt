@@ -6,21 +6,13 @@ ghost use Rattle.mb_parse_expr.specs.Machine.{plain, titled, counted, value_labe
 use crate::role::{Follow, Role};
 use mb_base::StrId;
 use mb_token::{Mark, Soft, Token};
-use mb_tree::{Kind, PropKey, Sign};
+use mb_tree::{Kind, Label, PropKey, Sign};
 
 /// How much of the grammar is read: an Expr, or an Assign, which a comma may end.
 #[derive(Clone, Copy, Debug, PartialEq, Eq)]
 pub enum Level {
     Expr,
     Assign,
-}
-
-/// A node without its parts.
-#[derive(Clone, Copy)]
-pub struct Label {
-    pub kind: Kind,
-    pub name: Option<StrId>,
-    pub whole: i64,
 }
 
 /// The name of a property in an object literal.

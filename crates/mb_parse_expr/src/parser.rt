@@ -7,15 +7,12 @@ ghost use Rattle.mb_parse_expr.specs.Machine as spec;
 ghost use Rattle.mb_parse_expr.specs.Answers.{place_of, IsReading, IsWaiting, Answers, NeedsItsBody, Moves};
 ghost use Rattle.mb_parse_expr.specs.Reads.{AreTheStatements};
 
-use crate::machine::{Frame, Label, Level, Mode, Move, next_move};
+use crate::machine::{Frame, Level, Mode, Move, next_move};
 use crate::role::{Follow, Role, classify, followed_by};
 use mb_base::{NoMemory, NodeId};
 use mb_token::{Spanned, Token};
-use mb_tree::{Node, Tree};
+use mb_tree::{MOST_NODES, Tree};
 use std::alloc::Global;
-
-// The most nodes of a tree, whose ids have 32 bits.
-const MOST_NODES: usize = 1 << 31;
 
 /// Why a parser stopped.
 #[derive(Clone, Copy, Debug, PartialEq, Eq)]
@@ -106,37 +103,6 @@ fn follow_at(tokens: &[Spanned], at: usize) -> Follow
     followed_by(classify(token_at(tokens, at + 1)))
 }
 
-// A node of the last operands, which becomes the last operand. A full tree takes none.
-fn build(
-    alloc: Global,
-    tree: &mut Tree,
-    operands: &mut Vec<NodeId>,
-    label: Label,
-    count: usize,
-) -> Result<(), NoMemory>
-    requires { count ≤ vec_len operands.old }
-    ensures few { OnOk result (vec_len tree.new.nodes ≤ MOST_NODES) }
-    ensures built { (front kids : List NodeId) → operands.old.items ≡ front ++ kids → length kids ≡ count → OnOk result (
-        (operands.new.items ≡ front ++ id_of (length (shapes tree.old)) ∷ [])
-        × (shapes tree.new ≡ shapes tree.old ++ shape (grammar.told label) kids ∷ [])) }
-{
-    if tree.nodes.len() >= MOST_NODES {
-        return Err(NoMemory);
-    }
-    let from = operands.len() - count;
-    let id = NodeId(tree.nodes.len() as u32);
-    let children = Vec::from_slice(alloc, &operands[from..])?;
-    operands.truncate(from);
-    tree.nodes.push(Node {
-        kind: label.kind,
-        name: label.name,
-        whole: label.whole,
-        children,
-    })?;
-    operands.push(id)?;
-    Ok(())
-}
-
 impl ExprParser {
     /// A parser of the expression that stands at `at`, as much of the grammar as `level` says.
     pub fn begin(alloc: Global, at: u32, level: Level) -> Result<ExprParser, NoMemory>
@@ -195,13 +161,13 @@ impl ExprParser {
                 follow,
             ) {
                 Move::Leaf(label, mode) => {
-                    build(alloc, tree, &mut self.operands, label, 0)?;
+                    tree.build(alloc, label, &mut self.operands, 0)?;
                     self.mode = mode;
                     self.at += 1;
                 }
                 Move::Begin(label, frame, mode) => {
                     self.frames.push(frame)?;
-                    build(alloc, tree, &mut self.operands, label, 0)?;
+                    tree.build(alloc, label, &mut self.operands, 0)?;
                     self.mode = mode;
                     self.at += 1;
                 }
@@ -221,13 +187,13 @@ impl ExprParser {
                     self.at += 1;
                 }
                 Move::Suffix(label, mode) => {
-                    build(alloc, tree, &mut self.operands, label, 1)?;
+                    tree.build(alloc, label, &mut self.operands, 1)?;
                     self.mode = mode;
                     self.at += 1;
                 }
                 Move::Build(label, count, mode, taken) => {
                     let _ = self.frames.pop();
-                    build(alloc, tree, &mut self.operands, label, count)?;
+                    tree.build(alloc, label, &mut self.operands, count)?;
                     self.mode = mode;
                     if taken {
                         self.at += 1;

@@ -15,7 +15,7 @@ use Rattle.mb_parse_stmt.specs.declared.terminal.Terminal.TheVariants as p
 use Rattle.mb_parse_stmt.specs.declared.machine.Holder.TheVariants as ho
 use Rattle.mb_parse_stmt.specs.declared.machine.Stop.{Stop}
 use Rattle.mb_parse_stmt.specs.declared.machine.Stop.TheVariants as st
-use Rattle.mb_parse_stmt.specs.declared.machine.Label.{Label}
+use Rattle.mb_tree.specs.declared.tree.Label.{Label}
 use Rattle.mb_parse_stmt.specs.declared.machine.Frame.{Frame}
 use Rattle.mb_parse_stmt.specs.declared.machine.Frame.TheVariants as f
 use Rattle.mb_parse_stmt.specs.declared.machine.Mode.{Mode}

@@ -12,7 +12,7 @@ use Rattle.mb_parse_expr.proofs.Forward.{stands_forward, statements_forward}
 use Rattle.mb_parse_expr.proofs.Once.{one_expression}
 use Rattle.mb_parse_stmt.specs.declared.machine.Stop.{Stop}
 use Rattle.mb_parse_stmt.specs.declared.machine.Stop.TheVariants as st
-use Rattle.mb_parse_stmt.specs.declared.machine.Label.{Label}
+use Rattle.mb_tree.specs.declared.tree.Label.{Label}
 use Rattle.mb_parse_stmt.specs.declared.machine.Frame.{Frame}
 use Rattle.mb_parse_stmt.specs.declared.machine.Mode.{Mode}
 use Rattle.mb_parse_stmt.specs.declared.machine.Mode.TheVariants as mo

@@ -10,14 +10,14 @@ use Rattle.mb_parse_expr.specs.declared.machine.Level.{Level}
 use Rattle.mb_parse_expr.specs.Reads.{Whole, IsTree}
 use Rattle.mb_parse_stmt.specs.declared.machine.Stop.{Stop}
 use Rattle.mb_parse_stmt.specs.declared.machine.Holder.TheVariants as ho
-use Rattle.mb_parse_stmt.specs.declared.machine.Label.{Label}
+use Rattle.mb_tree.specs.declared.tree.Label.{Label}
 use Rattle.mb_parse_stmt.specs.declared.machine.Frame.{Frame}
 use Rattle.mb_parse_stmt.specs.declared.machine.Frame.TheVariants as f
 use Rattle.mb_parse_stmt.specs.declared.machine.Mode.{Mode}
 use Rattle.mb_parse_stmt.specs.declared.machine.Mode.TheVariants as mo
 use Rattle.mb_parse_stmt.specs.declared.machine.Move.{Move}
 use Rattle.mb_parse_stmt.specs.declared.machine.Move.TheVariants.{Leaf, Enter, Swap, Build, Ask, Ended, Wrong}
-use Rattle.mb_parse_stmt.specs.Machine.{told, view_at, move_of, State, Going, Wants, Ends, Fails, built, forward, top, laid, below, apply, move_at, Leads, here, after, read}
+use Rattle.mb_parse_stmt.specs.Machine.{view_at, move_of, State, Going, Wants, Ends, Fails, built, forward, top, laid, below, apply, move_at, Leads, here, after, read}
 use Rattle.mb_parse_stmt.specs.Covers.{no_statement, top_list, behind_expression}
 use Rattle.mb_parse_stmt.specs.Reads.{Progress, Reading, Wanting}
 use Rattle.mb_parse_stmt.specs.Answers.{AreAll, NoneStand}
@@ -82,7 +82,7 @@ pub record Built (stop : Stop) (ts : List Spanned) (start : ℕ) (base : List Sh
   pub ids_are : ids ≡ front ++ kids
   pub count : length kids ≡ n
   pub within : at ≤ length ts
-  pub next : (frames : List Frame) (ids' : List NodeId) (shapes' : List Shape) → frames ≡ laid fs → ids' ≡ front ++ id_of (length shapes) ∷ [] → shapes' ≡ shapes ++ shape (told label) kids ∷ [] → Reading stop ts start base frames mode at ids' shapes'
+  pub next : (frames : List Frame) (ids' : List NodeId) (shapes' : List Shape) → frames ≡ laid fs → ids' ≡ front ++ id_of (length shapes) ∷ [] → shapes' ≡ shapes ++ shape label kids ∷ [] → Reading stop ts start base frames mode at ids' shapes'
 
 pub built_enough : {stop : Stop} {ts : List Spanned} {start : ℕ} {base : List Shape} {ids : List NodeId} {shapes : List Shape} {label : Label} {n : ℕ} {mode : Mode} {fs : List Frame} {at : ℕ} → Built stop ts start base ids shapes label n mode fs at → n ≤ length ids
 built_enough b = omega (arith, b.count, ap length b.ids_are, length-append b.front b.kids)
@@ -99,13 +99,13 @@ make stop ts start base ids shapes label n mode fs rs at i s p = each (gather n 
           kids = roots (written base rest) parts;
           ids_are = i ∙ sym (append-nil (places base rs)) ∙ gather_places base n rs rest none parts e;
           count = roots_length (written base rest) parts ∙ gather_size n rs rest none parts e ∙ omega arith;
-          within = good_within ts start stop fs (node (told label) parts ∷ rest) mode at q.sound;
+          within = good_within ts start stop fs (node label parts ∷ rest) mode at q.sound;
           next = λ frames ids' shapes' fe ie se. record {
             fs = fs;
-            rs = node (told label) parts ∷ rest;
+            rs = node label parts ∷ rest;
             frames_are = fe;
             ids_are = ie ∙ ap (λ x. places base rest ++ id_of (length x) ∷ []) (s ∙ w);
-            shapes_are = se ∙ ap (λ x. x ++ shape (told label) (roots (written base rest) parts) ∷ []) (s ∙ w);
+            shapes_are = se ∙ ap (λ x. x ++ shape label (roots (written base rest) parts) ∷ []) (s ∙ w);
             progress = q;
           };
         }
@@ -123,7 +123,7 @@ module _ {stop : Stop} {ts : List Spanned} {start : ℕ} {base : List Shape} {fr
   stepped move c = progress_step stop ts start h.fs h.rs mode at move (chosen_is c h.fs h.frames_are) h.progress
 
   pub leaf_within : (label : Label) (mode' : Mode) (n : ℕ) → Chosen stop ts frames mode at (Leaf label mode' n) → at + n ≤ length ts
-  leaf_within label mode' n c = going_within h.fs (node (told label) none ∷ h.rs) mode' n at (stepped (Leaf label mode' n) c)
+  leaf_within label mode' n c = going_within h.fs (node label none ∷ h.rs) mode' n at (stepped (Leaf label mode' n) c)
 
   pub enter_within : (frame : Frame) (mode' : Mode) (n : ℕ) → Chosen stop ts frames mode at (Enter frame mode' n) → at + n ≤ length ts
   enter_within frame mode' n c = going_within (frame ∷ h.fs) h.rs mode' n at (stepped (Enter frame mode' n) c)
@@ -136,14 +136,14 @@ module _ {stop : Stop} {ts : List Spanned} {start : ℕ} {base : List Shape} {fr
       let p = swapped frame mode' n c in
       (going_within (frame ∷ below h.fs) h.rs mode' n at p.0, omega (arith, p.1, ap length h.frames_are))
 
-  pub reading_leaf : (label : Label) (mode' : Mode) (n : ℕ) → Chosen stop ts frames mode at (Leaf label mode' n) → (ids' : List NodeId) (shapes' : List Shape) (at' : ℕ) → ids' ≡ ids ++ id_of (length shapes) ∷ [] → shapes' ≡ shapes ++ shape (told label) [] ∷ [] → at' ≡ at + n → Reading stop ts start base frames mode' at' ids' shapes'
+  pub reading_leaf : (label : Label) (mode' : Mode) (n : ℕ) → Chosen stop ts frames mode at (Leaf label mode' n) → (ids' : List NodeId) (shapes' : List Shape) (at' : ℕ) → ids' ≡ ids ++ id_of (length shapes) ∷ [] → shapes' ≡ shapes ++ shape label [] ∷ [] → at' ≡ at + n → Reading stop ts start base frames mode' at' ids' shapes'
   reading_leaf label mode' n c ids' shapes' at' i s e = record {
     fs = h.fs;
-    rs = node (told label) none ∷ h.rs;
+    rs = node label none ∷ h.rs;
     frames_are = h.frames_are;
     ids_are = i ∙ ap (λ x. x ++ id_of (length shapes) ∷ []) h.ids_are ∙ ap (λ x. places base h.rs ++ id_of (length x) ∷ []) h.shapes_are;
-    shapes_are = s ∙ ap (λ x. x ++ shape (told label) [] ∷ []) h.shapes_are;
-    progress = going_at h.fs (node (told label) none ∷ h.rs) mode' n at at' e (stepped (Leaf label mode' n) c);
+    shapes_are = s ∙ ap (λ x. x ++ shape label [] ∷ []) h.shapes_are;
+    progress = going_at h.fs (node label none ∷ h.rs) mode' n at at' e (stepped (Leaf label mode' n) c);
   }
 
   pub reading_enter : (frame : Frame) (mode' : Mode) (n : ℕ) → Chosen stop ts frames mode at (Enter frame mode' n) → (frames' : List Frame) (at' : ℕ) → frames' ≡ frames ++ frame ∷ [] → at' ≡ at + n → Reading stop ts start base frames' mode' at' ids shapes

@@ -18,7 +18,7 @@ use Rattle.mb_parse_stmt.specs.declared.terminal.Terminal.{Terminal}
 use Rattle.mb_parse_stmt.specs.declared.terminal.Terminal.TheVariants as p
 use Rattle.mb_parse_stmt.specs.declared.machine.Stop.{Stop}
 use Rattle.mb_parse_stmt.specs.declared.machine.Stop.TheVariants as st
-use Rattle.mb_parse_stmt.specs.declared.machine.Label.{Label}
+use Rattle.mb_tree.specs.declared.tree.Label.{Label}
 use Rattle.mb_parse_stmt.specs.declared.machine.Holder.TheVariants as ho
 use Rattle.mb_parse_stmt.specs.declared.machine.Declarer.TheVariants as de
 use Rattle.mb_parse_stmt.specs.declared.machine.Frame.{Frame}
@@ -28,7 +28,7 @@ use Rattle.mb_parse_stmt.specs.declared.machine.Mode.TheVariants as mo
 use Rattle.mb_parse_stmt.specs.declared.machine.Move.{Move}
 use Rattle.mb_parse_stmt.specs.declared.machine.Move.TheVariants.{Enter, Swap, Build, Leaf}
 use Rattle.mb_parse_stmt.specs.Terminals.{terminal_at}
-use Rattle.mb_parse_stmt.specs.Machine.{plain, titled, told, one, value, open_then, close_then, brace_then, semicolon_then, while_then, line_move, return_move, sub_move, function_move, begin_move, is_close, close_list, then_move, try_move, catch_move, caught_move, done_move, behind_move, first_move, test_move, last_move, part_move, alone_move, name_move, declaration_move, declared_move, body_move, param_move, comma_move, catch_name_move, stops_of, Going, built, top, apply, move_at}
+use Rattle.mb_parse_stmt.specs.Machine.{plain, titled, one, value, open_then, close_then, brace_then, semicolon_then, while_then, line_move, return_move, sub_move, function_move, begin_move, is_close, close_list, then_move, try_move, catch_move, caught_move, done_move, behind_move, first_move, test_move, last_move, part_move, alone_move, name_move, declaration_move, declared_move, body_move, param_move, comma_move, catch_name_move, stops_of, Going, built, top, apply, move_at}
 use Rattle.mb_parse_stmt.specs.Covers.{Counted, no_statement, one_more, Commas, no_comma, comma_more, NameCommas, no_name, name_more, Titled, ForOpen, ForOne, ForTwo, ForThree, CatchHead, nameless, head_named, Lists, top_list, block_list, body_list, Subs, sub_list, in_then, in_else, in_while, in_do, in_for, Blocks, block_sub, in_try, in_catch, in_finally, Dones, done_statement, done_sub, done_block, Parts, part_first, part_test, part_last, Declarings, in_let, in_const, in_for_let, Declareds, declared_one, Askings, ask_if, ask_while, ask_do, ask_part, ask_return, ask_throw, ask_expression, ask_value, Behinds, behind_expression, behind_lets, InParams, in_params, InComma, in_comma, CatchNames, catch_name, IsStop, Good}
 use Rattle.mb_parse_stmt.proofs.Tokens.{means, word_there, no_role}
 use Rattle.mb_parse_stmt.proofs.Places.{role_within, end_within}
@@ -117,7 +117,7 @@ stops_at st.Brace ts i p.CloseBrace e q = means ts i p.CloseBrace e
 stops_at st.Brace ts i _ e q = cc
 
 module _ (stop : Stop) (ts : List Spanned) (start : ℕ) where
-  good_built : (label : Label) (mode : Mode) (fs : List Frame) (rs : List Rose) (at : ℕ) (got : Gathered) (parts : Roses) → got ≡ Got parts rs → Good stop ts start (Going fs (node (told label) parts ∷ rs) mode at) → Good stop ts start (built label mode fs at got)
+  good_built : (label : Label) (mode : Mode) (fs : List Frame) (rs : List Rose) (at : ℕ) (got : Gathered) (parts : Roses) → got ≡ Got parts rs → Good stop ts start (Going fs (node label parts ∷ rs) mode at) → Good stop ts start (built label mode fs at got)
   good_built label mode fs rs at got parts e b = subst (λ g. Good stop ts start (built label mode fs at g)) (sym e) b
 
   -- tokens that are wanted

@@ -19,7 +19,7 @@ use Rattle.mb_parse_stmt.specs.declared.terminal.Terminal.{Terminal}
 use Rattle.mb_parse_stmt.specs.declared.terminal.Terminal.TheVariants as p
 use Rattle.mb_parse_stmt.specs.declared.machine.Stop.{Stop}
 use Rattle.mb_parse_stmt.specs.declared.machine.Stop.TheVariants as st
-use Rattle.mb_parse_stmt.specs.declared.machine.Label.{Label}
+use Rattle.mb_tree.specs.declared.tree.Label.{Label}
 use Rattle.mb_parse_stmt.specs.declared.machine.Holder.{Holder}
 use Rattle.mb_parse_stmt.specs.declared.machine.Holder.TheVariants as ho
 use Rattle.mb_parse_stmt.specs.declared.machine.Declarer.{Declarer}
@@ -31,7 +31,7 @@ use Rattle.mb_parse_stmt.specs.declared.machine.Mode.TheVariants as mo
 use Rattle.mb_parse_stmt.specs.declared.machine.Move.{Move}
 use Rattle.mb_parse_stmt.specs.declared.machine.Move.TheVariants.{Leaf, Enter, Swap, Build, Ask, Ended}
 use Rattle.mb_parse_stmt.specs.Terminals.{terminal_at}
-use Rattle.mb_parse_stmt.specs.Machine.{plain, titled, told, one, value, open_then, close_then, brace_then, semicolon_then, while_then, line_move, return_move, sub_move, function_move, begin_move, is_close, closes, close_list, then_move, try_move, catch_move, caught_move, first_move, test_move, last_move, alone_move, name_move, declaration_move, next_declaration, param_of, comma_of, catch_name_move, stops_of, State, Going, Ends, built, apply, move_at, Leads, here, after, read}
+use Rattle.mb_parse_stmt.specs.Machine.{plain, titled, one, value, open_then, close_then, brace_then, semicolon_then, while_then, line_move, return_move, sub_move, function_move, begin_move, is_close, closes, close_list, then_move, try_move, catch_move, caught_move, first_move, test_move, last_move, alone_move, name_move, declaration_move, next_declaration, param_of, comma_of, catch_name_move, stops_of, State, Going, Ends, built, apply, move_at, Leads, here, after, read}
 use Rattle.mb_parse_stmt.specs.Covers.{IsStop}
 use Rattle.mb_parse_stmt.proofs.Tokens.{means, word_there, role_there}
 use Rattle.mb_parse_stmt.proofs.Begins.{starts, sub_opens, statement_opens, begins_sub, expression_sub, starts_return, starts_first, starts_test, starts_last, opens_on, closed_finally}
@@ -85,7 +85,7 @@ module _ (stop : Stop) (ts : List Spanned) where
   turn : {c : State} (fs : List Frame) (rs : List Rose) (at : ℕ) (move move' : Move) → move ≡ move' → Leads stop ts (apply move' fs rs at) c → Leads stop ts (apply move fs rs at) c
   turn {c = c} fs rs at move move' e l = subst (λ m. Leads stop ts (apply m fs rs at) c) (sym e) l
 
-  at_built : {c : State} (label : Label) (mode : Mode) (fs : List Frame) (rs rs' : List Rose) (at n : ℕ) (parts : Roses) → gather n rs' none ≡ Got parts rs → Leads stop ts (Going fs (node (told label) parts ∷ rs) mode at) c → Leads stop ts (built label mode fs at (gather n rs' none)) c
+  at_built : {c : State} (label : Label) (mode : Mode) (fs : List Frame) (rs rs' : List Rose) (at n : ℕ) (parts : Roses) → gather n rs' none ≡ Got parts rs → Leads stop ts (Going fs (node label parts ∷ rs) mode at) c → Leads stop ts (built label mode fs at (gather n rs' none)) c
   at_built {c = c} label mode fs rs rs' at n parts e l = subst (λ g. Leads stop ts (built label mode fs at g) c) (sym e) l
 
   asks : {c : State} {level : Level} {a : Rose} {es : List ℕ} {i j : ℕ} → Whole ts level a es i j → (fs : List Frame) (rs : List Rose) → Leads stop ts (Going fs (a ∷ rs) mo.Behind j) c → Leads stop ts (Going fs rs (mo.Expression level) i) c

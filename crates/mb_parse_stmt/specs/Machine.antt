@@ -1,5 +1,5 @@
 -- The steps of a parser of statements, on trees in place of flat nodes.
-use Rattle.std.specs.Prelude.{ℕ, pos, zero, suc, ◌+◌, Bool, true, false, if◌then◌else◌, List, [], ◌∷◌, ◌++◌, Option, Some, None}
+use Rattle.std.specs.Prelude.{ℕ, zero, suc, ◌+◌, Bool, true, false, if◌then◌else◌, List, [], ◌∷◌, ◌++◌, Option, Some, None}
 use Rattle.mb_base.specs.declared.value.StrId.{StrId}
 use Rattle.mb_token.specs.declared.token.Spanned.{Spanned}
 use Rattle.mb_tree.specs.declared.kind.Kind.{Kind}
@@ -15,7 +15,7 @@ use Rattle.mb_parse_stmt.specs.declared.terminal.Terminal.{Terminal}
 use Rattle.mb_parse_stmt.specs.declared.terminal.Terminal.TheVariants as p
 use Rattle.mb_parse_stmt.specs.declared.machine.Stop.{Stop}
 use Rattle.mb_parse_stmt.specs.declared.machine.Stop.TheVariants as st
-use Rattle.mb_parse_stmt.specs.declared.machine.Label.{Label}
+use Rattle.mb_tree.specs.declared.tree.Label.{Label}
 use Rattle.mb_parse_stmt.specs.declared.machine.Holder.{Holder}
 use Rattle.mb_parse_stmt.specs.declared.machine.Holder.TheVariants as ho
 use Rattle.mb_parse_stmt.specs.declared.machine.Declarer.{Declarer}
@@ -30,13 +30,10 @@ use Rattle.mb_parse_stmt.specs.declared.machine.View.{View}
 use Rattle.mb_parse_stmt.specs.Terminals.{terminal_at}
 
 abbrev pub plain : Kind → Label
-plain k = record { kind = k; name = None }
+plain k = tree.bare k
 
 abbrev pub titled : Kind → StrId → Label
-titled k n = record { kind = k; name = Some n }
-
-abbrev pub told : Label → tree.Label
-told l = record { kind = l.kind; name = l.name; whole = pos 0 }
+titled k n = tree.named k n
 
 abbrev pub one : Bool → ℕ
 one true = 1
@@ -284,7 +281,7 @@ forward (suc n) at = forward n (at + 1)
 
 abbrev pub built : Label → Mode → List Frame → ℕ → Gathered → State
 built label mode fs at Short = Stuck
-built label mode fs at (Got parts rs) = Going fs (node (told label) parts ∷ rs) mode at
+built label mode fs at (Got parts rs) = Going fs (node label parts ∷ rs) mode at
 
 abbrev pub top : List Frame → Option Frame
 top [] = None
@@ -300,7 +297,7 @@ below [] = []
 below (f ∷ fs) = fs
 
 abbrev pub apply : Move → List Frame → List Rose → ℕ → State
-apply (Leaf label mode n) fs rs at = Going fs (node (told label) none ∷ rs) mode (forward n at)
+apply (Leaf label mode n) fs rs at = Going fs (node label none ∷ rs) mode (forward n at)
 apply (Enter f mode n) fs rs at = Going (f ∷ fs) rs mode (forward n at)
 apply (Swap f mode n) [] rs at = Stuck
 apply (Swap f mode n) (_ ∷ fs) rs at = Going (f ∷ fs) rs mode (forward n at)

@@ -6,20 +6,13 @@ ghost use Rattle.mb_parse_stmt.specs.Machine.{plain, titled, count_of, one};
 use crate::terminal::Terminal;
 use mb_base::StrId;
 use mb_parse_expr::Level;
-use mb_tree::Kind;
+use mb_tree::{Kind, Label};
 
 /// What ends a list of statements that isn't within another: the end of the tokens, or `}`.
 #[derive(Clone, Copy)]
 pub enum Stop {
     End,
     Brace,
-}
-
-/// A node without its parts.
-#[derive(Clone, Copy)]
-pub struct Label {
-    pub kind: Kind,
-    pub name: Option<StrId>,
 }
 
 /// What a list of statements belongs to.
@@ -133,7 +126,11 @@ pub struct View {
 fn bare(kind: Kind) -> Label
     ensures { result ≡ plain kind }
 {
-    Label { kind, name: None }
+    Label {
+        kind,
+        name: None,
+        whole: 0,
+    }
 }
 
 fn named(kind: Kind, name: StrId) -> Label
@@ -142,6 +139,7 @@ fn named(kind: Kind, name: StrId) -> Label
     Label {
         kind,
         name: Some(name),
+        whole: 0,
     }
 }
 

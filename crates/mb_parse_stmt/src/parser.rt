@@ -6,12 +6,12 @@ ghost use Rattle.mb_parse_stmt.specs.Answers.{taken};
 ghost use Rattle.mb_parse_stmt.specs.Script.{IsScript, script_of};
 ghost use Rattle.mb_parse_stmt.specs.Levels.{AtLevel, Nexts, IsFrom};
 
-use crate::machine::{Label, Stop};
-use crate::statements::{StatementParser, Step, build};
+use crate::machine::Stop;
+use crate::statements::{StatementParser, Step};
 use mb_base::NoMemory;
 use mb_parse_expr::{ExprParser, Paused};
 use mb_token::Spanned;
-use mb_tree::{Kind, Tree};
+use mb_tree::{Kind, Label, Tree};
 use std::alloc::{AllocError, Global};
 
 // The most nodes on a way down a tree.
@@ -125,8 +125,9 @@ fn script(alloc: Global, tree: Tree, statements: StatementParser) -> Result<Tree
     let label = Label {
         kind: Kind::Script,
         name: None,
+        whole: 0,
     };
-    build(alloc, &mut tree, &mut operands, label, count)?;
+    tree.build(alloc, label, &mut operands, count)?;
     if tree.height(alloc)? > MOST_HIGH {
         return Err(ParseFault::Deep);
     }

@@ -7,16 +7,13 @@ ghost use Rattle.mb_parse_stmt.specs.Terminals as terminals;
 ghost use Rattle.mb_parse_stmt.specs.Machine as spec;
 ghost use Rattle.mb_parse_stmt.specs.Answers.{IsReading, IsWanting, Answers, Moves, taken};
 
-use crate::machine::{Frame, Holder, Label, Mode, Move, Stop, View, next_move};
+use crate::machine::{Frame, Holder, Mode, Move, Stop, View, next_move};
 use crate::terminal::{Terminal, classify};
 use mb_base::{NoMemory, NodeId};
 use mb_parse_expr::Level;
 use mb_token::Spanned;
-use mb_tree::{Node, Tree};
+use mb_tree::{MOST_NODES, Tree};
 use std::alloc::Global;
-
-// The most nodes of a tree, whose ids have 32 bits.
-const MOST_NODES: usize = 1 << 31;
 
 /// Why a parser stopped.
 #[derive(Clone, Copy)]
@@ -93,37 +90,6 @@ fn view(stop: Stop, tokens: &[Spanned], at: usize) -> View
     }
 }
 
-/// A node of the last operands, which becomes the last operand. A full tree takes none.
-pub fn build(
-    alloc: Global,
-    tree: &mut Tree,
-    operands: &mut Vec<NodeId>,
-    label: Label,
-    count: usize,
-) -> Result<(), NoMemory>
-    requires { count ≤ vec_len operands.old }
-    ensures few { OnOk result (vec_len tree.new.nodes ≤ MOST_NODES) }
-    ensures built { (front kids : List NodeId) → operands.old.items ≡ front ++ kids → length kids ≡ count → OnOk result (
-        (operands.new.items ≡ front ++ id_of (length (shapes tree.old)) ∷ [])
-        × (shapes tree.new ≡ shapes tree.old ++ shape (spec.told label) kids ∷ [])) }
-{
-    if tree.nodes.len() >= MOST_NODES {
-        return Err(NoMemory);
-    }
-    let from = operands.len() - count;
-    let id = NodeId(tree.nodes.len() as u32);
-    let children = Vec::from_slice(alloc, &operands[from..])?;
-    operands.truncate(from);
-    tree.nodes.push(Node {
-        kind: label.kind,
-        name: label.name,
-        whole: 0,
-        children,
-    })?;
-    operands.push(id)?;
-    Ok(())
-}
-
 impl StatementParser {
     /// A parser of the statements that stand at `at`.
     pub fn begin(alloc: Global, at: u32, stop: Stop) -> Result<StatementParser, NoMemory>
@@ -162,7 +128,7 @@ impl StatementParser {
             let view = view(self.stop, tokens, self.at);
             match next_move(top_of(&self.frames), self.mode, view) {
                 Move::Leaf(label, mode, count) => {
-                    build(alloc, tree, &mut self.operands, label, 0)?;
+                    tree.build(alloc, label, &mut self.operands, 0)?;
                     self.mode = mode;
                     self.at += count as usize;
                 }
@@ -179,7 +145,7 @@ impl StatementParser {
                 }
                 Move::Build(label, parts, mode, count) => {
                     let _ = self.frames.pop();
-                    build(alloc, tree, &mut self.operands, label, parts)?;
+                    tree.build(alloc, label, &mut self.operands, parts)?;
                     self.mode = mode;
                     self.at += count as usize;
                 }

@@ -7,8 +7,8 @@ use std::alloc::Global;
 use std::process::Abort;
 use std::test::Fail;
 
-// A text's tokens: a small letter is a name, a digit a number, a capital letter a reserved word, `>` the mark `=>`, and
-// each other character but space and line end its mark. `~` is a mark that begins nothing.
+// A text's tokens: a small letter is a name, a digit a number, a capital letter a reserved word, `>` the mark `=>`, `+`
+// the mark `++`, and each other character below its own mark. A line feed is a line end.
 fn token_of(byte: u8) -> Option<Token> {
     let word = |word| Some(Token::Reserved(word, StrId(0)));
     let mark = |mark| Some(Token::Mark(mark));

@@ -1,16 +1,15 @@
 -- Trees, and how they are laid flat.
-use Rattle.std.specs.Prelude.{ℕ, ℤ, pos, List, [], ◌∷◌, ◌++◌, Option, Some, None, length, map}
+use Rattle.std.specs.Prelude.{ℕ, ℤ, pos, List, [], ◌∷◌, ◌++◌, Some, None, length, map}
 use Rattle.mb_base.specs.declared.value.NodeId.{NodeId}
 use Rattle.mb_base.specs.declared.value.StrId.{StrId}
 use Rattle.mb_tree.specs.declared.kind.Kind.{Kind}
+use Rattle.mb_tree.specs.declared.tree.Label.{Label as TheLabel}
 use Rattle.mb_tree.specs.declared.tree.Node.{Node}
 use Rattle.mb_tree.specs.declared.tree.Tree.{Tree}
 
--- what a node tells apart from its parts
-pub record Label : Type 0 where
-  pub kind : Kind
-  pub name : Option StrId
-  pub whole : ℤ
+-- what a node is without its parts
+abbrev pub Label : Type 0
+Label = TheLabel
 
 abbrev pub bare : Kind → Label
 bare k = record { kind = k; name = None; whole = pos 0 }

@@ -9,4 +9,4 @@ mod tree;
 
 pub use kind::{Fixed, Kind, PropKey, Sign};
 pub use program::{Program, Scopes};
-pub use tree::{Node, Tree};
+pub use tree::{Label, MOST_NODES, Node, Tree};

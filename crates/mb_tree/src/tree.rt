@@ -1,11 +1,22 @@
 // Trees.
-ghost use Rattle.std.specs.Prelude.{◌≡◌, ◌+◌, ◌<◌, ◌^◌, List, [], length, EachIndex, IfOk, vec_len};
-ghost use Rattle.mb_tree.specs.Roses.{Rose, write, shapes};
+ghost use Rattle.std.specs.Prelude.{◌≡◌, ◌+◌, ◌<◌, ◌≤◌, ◌^◌, List, [], ◌∷◌, ◌++◌, length, EachIndex, IfOk, OnOk, vec_len};
+ghost use Rattle.mb_tree.specs.Roses.{Rose, write, shapes, shape, id_of};
 ghost use Rattle.mb_tree.specs.Heights.{height_of, most_at, IsWhole, AreAmong};
 
 use crate::kind::Kind;
 use mb_base::{NoMemory, NodeId, StrId};
 use std::alloc::Global;
+
+/// The most nodes of a tree, whose ids have 32 bits.
+pub const MOST_NODES: usize = 1 << 31;
+
+/// What a node is without its parts.
+#[derive(Clone, Copy, Debug, PartialEq, Eq)]
+pub struct Label {
+    pub kind: Kind,
+    pub name: Option<StrId>,
+    pub whole: i64,
+}
 
 /// A node. `name` is the text of a Name, Text, Member, Decl, Param, FunctionDecl or named Function, and of the key of a
 /// Value, Method, Getter or Setter where that is a word or a text. `whole` is the number of a Number, and of such a key
@@ -26,6 +37,38 @@ pub struct Tree {
 }
 
 impl Tree {
+    /// Adds a node whose parts are the last `count` of these trees, and puts it in their place. A tree of
+    /// [`MOST_NODES`] nodes takes no more: that is `NoMemory`, after which `operands` may lack the parts.
+    pub fn build(
+        &mut self,
+        alloc: Global,
+        label: Label,
+        operands: &mut Vec<NodeId>,
+        count: usize,
+    ) -> Result<(), NoMemory>
+        requires { count ≤ vec_len operands.old }
+        ensures few { OnOk result (vec_len self.new.nodes ≤ MOST_NODES) }
+        ensures built { (front kids : List NodeId) → operands.old.items ≡ front ++ kids → length kids ≡ count → OnOk result (
+            (operands.new.items ≡ front ++ id_of (length (shapes self.old)) ∷ [])
+            × (shapes self.new ≡ shapes self.old ++ shape label kids ∷ [])) }
+    {
+        if self.nodes.len() >= MOST_NODES {
+            return Err(NoMemory);
+        }
+        let from = operands.len() - count;
+        let id = NodeId(self.nodes.len() as u32);
+        let children = Vec::from_slice(alloc, &operands[from..])?;
+        operands.truncate(from);
+        self.nodes.push(Node {
+            kind: label.kind,
+            name: label.name,
+            whole: label.whole,
+            children,
+        })?;
+        operands.push(id)?;
+        Ok(())
+    }
+
     /// The number of nodes on the longest way down from the root, 0 where there is no node.
     pub fn height(&self, alloc: Global) -> Result<u32, NoMemory>
         requires whole { IsWhole (shapes self.now) }
@@ -36,7 +79,7 @@ impl Tree {
         let mut heights = Vec::new(alloc);
         for node in &self.nodes {
             let below = most(&heights, &node.children);
-            heights.push(below + 1).map_err(|_| NoMemory)?;
+            heights.push(below + 1)?;
         }
         Ok(heights.last().copied().unwrap_or(0))
     }

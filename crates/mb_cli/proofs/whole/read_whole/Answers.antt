@@ -1,4 +1,4 @@
-use Rattle.std.proofs.Common.{◌≡◌, ◌++◌, ◌<◌, ◌-◌, take, length, min, arith, ◌∙◌, true, vec_len, refl, ap, subst}
+use Rattle.std.proofs.Common.{◌≡◌, ◌++◌, ◌+◌, ◌<◌, ◌-◌, take, length, min, arith, ◌∙◌, true, vec_len, refl, ap, subst}
 use Rattle.std.specs.Prelude.{is_ok, IsSome}
 use Rattle.std.proofs.lemmas.Grind.{common_steps}
 use Rattle.mb_outer.specs.Causes.{Reads}
@@ -15,7 +15,7 @@ returns-in-Failed-read-clause-never g c s sound told there failed =
 pub returns-in-Bytes-eq0-clause-whole : goal.returns-in-Bytes-eq0-clause-whole
 returns-in-Bytes-eq0-clause-whole g c s told =
     let read = c.loop-piece.invariant.read s told in
-    let some : 0 < length c.read.new.into = omega (arith, buffer_length c.read.new.into c.loop-piece.piece c.min-most.result (vec_len c.loop-piece.text) c.read.auto.into c.min-most.array_long (c.min-most.ensures ∙ ap (λ n. min 4096 (65537 - n)) c.len-in-loop-piece.ensures), c.loop-piece-test.true, c.len.ensures) in (
+    let some : 0 < length c.read.new.into = omega (arith, buffer_length c.read.new.into c.loop-piece.piece c.min-count.result (c.args.most + 1 - vec_len c.loop-piece.text) c.read.auto.into c.min-count.array_long (c.min-count.ensures ∙ ap (λ n. min 4096 (c.args.most + 1 - n)) c.len-in-loop-piece.ensures), c.loop-piece-test.true, c.len.ensures) in (
       read_ended s c.args.name.now (g.L.Library.rest c.loop-piece.library) (g.L.Library.rest c.read.new.self) c.loop-piece.text.items c.read.new.into some read
           (subst (λ n. Reads (g.L.Library.rest c.loop-piece.library) (g.L.Library.rest c.read.new.self) c.read.new.into (got.Bytes n)) c.in-Bytes-eq0.field-0-test c.in-Bytes-eq0.ensures.bytes),
       omega (arith, c.loop-piece-test.true, c.len.ensures),
@@ -28,8 +28,8 @@ loop-piece-preserved g c =
     record {
       within = omega (
         arith,
-        buffer_length c.read.new.into c.loop-piece.piece c.min-most.result (vec_len c.loop-piece.text) c.read.auto.into c.min-most.array_long
-            (c.min-most.ensures ∙ ap (λ n. min 4096 (65537 - n)) c.len-in-loop-piece.ensures),
+        buffer_length c.read.new.into c.loop-piece.piece c.min-count.result (c.args.most + 1 - vec_len c.loop-piece.text) c.read.auto.into c.min-count.array_long
+            (c.min-count.ensures ∙ ap (λ n. min 4096 (c.args.most + 1 - n)) c.len-in-loop-piece.ensures),
         c.in-Bytes.ensures.bound,
         longer c.loop-piece.text.items c.extend_from_slice.new.self.items c.in-Bytes.count c.read.new.into items,
         c.loop-piece-test.true,
@@ -43,15 +43,15 @@ loop-piece-preserved g c =
     }
 
 pub returns-clause-whole : goal.returns-clause-whole
-returns-clause-whole g c s told = too_long s c.args.name.now (g.L.Library.rest c.loop-piece.library) c.loop-piece.text.items (omega (arith, c.loop-piece-test.false, c.len.ensures)) (c.loop-piece.invariant.read s told)
+returns-clause-whole g c s told = too_long c.args.most s c.args.name.now (g.L.Library.rest c.loop-piece.library) c.loop-piece.text.items (omega (arith, c.loop-piece-test.false, c.len.ensures)) (c.loop-piece.invariant.read s told)
 
 pub returns-in-Bytes-eq0-clause-further : goal.returns-in-Bytes-eq0-clause-further
 returns-in-Bytes-eq0-clause-further g c s rest told is =
     let read = c.loop-piece.invariant.read s told in
     let nothing = subst (λ n. Reads (g.L.Library.rest c.loop-piece.library) (g.L.Library.rest c.read.new.self) c.read.new.into (got.Bytes n)) c.in-Bytes-eq0.field-0-test c.in-Bytes-eq0.ensures.bytes in
-    read_up_to s c.args.name.now (g.L.Library.rest c.read.new.self) c.loop-piece.text.items rest (omega (arith, c.loop-piece.invariant.within))
+    read_up_to c.args.most s c.args.name.now (g.L.Library.rest c.read.new.self) c.loop-piece.text.items rest (omega (arith, c.loop-piece.invariant.within))
     (read_nothing s c.args.name.now (g.L.Library.rest c.loop-piece.library) (g.L.Library.rest c.read.new.self) c.loop-piece.text.items c.read.new.into read nothing) is
 
 pub returns-clause-further : goal.returns-clause-further
 returns-clause-further g c s rest told is =
-    read_up_to s c.args.name.now (g.L.Library.rest c.loop-piece.library) c.loop-piece.text.items rest (omega (arith, c.loop-piece.invariant.within)) (c.loop-piece.invariant.read s told) is
+    read_up_to c.args.most s c.args.name.now (g.L.Library.rest c.loop-piece.library) c.loop-piece.text.items rest (omega (arith, c.loop-piece.invariant.within)) (c.loop-piece.invariant.read s told) is

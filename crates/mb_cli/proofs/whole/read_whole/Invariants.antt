@@ -1,4 +1,4 @@
-use Rattle.std.proofs.Common.{◌≡◌, ◌≤◌, ◌-◌, Some, vec_len}
+use Rattle.std.proofs.Common.{◌≡◌, ◌≤◌, ◌+◌, ◌-◌, Some, vec_len}
 use Rattle.std.specs.Prelude.{IsTrue}
 use Rattle.mb_outer.specs.Shelf.{Shelf}
 use Rattle.mb_cli.proofs.Pieces.{IsRead}
@@ -6,7 +6,7 @@ use Rattle.mb_cli.proofs.whole.read_whole.Given as goal
 
 abbrev pub invariant-loop-piece : goal.invariant-loop-piece
 invariant-loop-piece g l = record {
-  within : vec_len l.text ≤ 65537;
+  within : vec_len l.text ≤ l.most + 1;
   shelf : g.L.Library.shelf l.library ≡ g.L.Library.shelf l.fn.library;
   sound : IsTrue (g.L.Library.sound l.fn.library) → IsTrue (g.L.Library.sound l.library);
   faults : g.L.Library.faults l.library ≡ g.L.Library.faults l.fn.library;
@@ -14,4 +14,4 @@ invariant-loop-piece g l = record {
 }
 
 abbrev pub decreases-loop-piece : goal.decreases-loop-piece
-decreases-loop-piece g l = 65537 - vec_len l.text
+decreases-loop-piece g l = (l.most + 1) - vec_len l.text

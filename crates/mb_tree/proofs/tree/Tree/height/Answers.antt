@@ -27,7 +27,7 @@ pub loop-node-preserved : goal.loop-node-preserved
 loop-node-preserved c =
     let hs = c.loop-node.heights.items in
     let n = c.node-item.result in
-    let pushed : c.push.new.self.items ≡ hs ++ (c.most-below.result + 1) ∷ [] = grind (arith, common_steps, c.push.ensures.items, c.map_err.ensures.variant, c.in_ok-map_err.was) in
+    let pushed : c.push.new.self.items ≡ hs ++ (c.most-below.result + 1) ∷ [] = grind (arith, common_steps, c.in_ok-push.ensures.items) in
     let t = item_there c.deref-node-items.result.now c.args.self.now.nodes.items c.loop-node.node-index n c.deref-node-items.ensures.value c.loop-node-test.true c.node-item.is in
     let most : c.most-below.result ≡ most_at hs n.children.items = c.most-below.ensures ∙ ap (λ (x : List ℕ). most_at x c.deref-in-loop-node.result.now) c.deref.ensures.value ∙ ap (most_at hs) c.deref-in-loop-node.ensures.value in
     let low = most_low hs n.children.items c.loop-node.node-index c.loop-node.invariant.low in

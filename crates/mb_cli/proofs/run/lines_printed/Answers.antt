@@ -2,15 +2,20 @@ use Rattle.std.proofs.Common.{ap, sym, subst}
 use Rattle.std.specs.List.{concat}
 use Rattle.std.proofs.lemmas.Result.{err_from_is_err_and}
 use Rattle.mb_cli.specs.Literals.{AreLiterals}
-use Rattle.mb_cli.proofs.Causes.{right_cause}
+use Rattle.mb_cli.proofs.Causes.{left_cause, right_cause, there}
 use Rattle.mb_cli.proofs.Meanings.{AreLiterals-kept}
-use Rattle.mb_cli.proofs.command.lines_printed.Goals as goal
+use Rattle.mb_cli.proofs.run.lines_printed.Goals as goal
+
+pub returns-in_err-left-clause-cause : goal.returns-in_err-left-clause-cause
+returns-in_err-left-clause-cause c lefts rights wl wr =
+    let p = err_from_is_err_and c.from_residual.result c.from_residual.ensures.1 in
+    rw (p.1, p.2) (left_cause lefts rights c.in_err-left.field-0.0 (there lefts _ _ wl) (there rights _ _ wr) (c.in_err-left.ensures.refused lefts wl))
 
 pub returns-in_err-right-clause-cause : goal.returns-in_err-right-clause-cause
 returns-in_err-right-clause-cause c lefts rights wl wr =
     let p = err_from_is_err_and c.from_residual-in_err-right.result c.from_residual-in_err-right.ensures.1 in
     let left = c.in_ok-left.ensures.script lefts wl in
-    rw (p.1, p.2) (right_cause lefts rights c.in_err-right.field-0.0 (left.0, left.1) (c.in_err-right.ensures.refused rights wr))
+    rw (p.1, p.2) (right_cause lefts rights c.in_err-right.field-0.0 (there lefts _ _ wl) (there rights _ _ wr) (left.0, left.1) (c.in_err-right.ensures.refused rights wr))
 
 pub lines_of-requires-clause-left : goal.lines_of-requires-clause-left
 lines_of-requires-clause-left c =
