@@ -23,7 +23,7 @@ fn line_of_a_right_script(alloc: Global) -> Result<Vec<u8>, NoMemory>
     ensures { IfOk result (λ line. line.items ≡ right_line) }
 {
     let mut line = Vec::new(alloc);
-    line.extend_from_slice(b"= ok\n").map_err(|_| NoMemory)?;
+    line.extend_from_slice(b"= ok\n")?;
     Ok(line)
 }
 
@@ -32,9 +32,7 @@ fn lines_of_a_right_script(alloc: Global) -> Result<Vec<Vec<u8>>, NoMemory>
     ensures { IfOk result (λ lines. contents_of lines.items ≡ right_line ∷ []) }
 {
     let mut lines = Vec::new(alloc);
-    lines
-        .push(line_of_a_right_script(alloc)?)
-        .map_err(|_| NoMemory)?;
+    lines.push(line_of_a_right_script(alloc)?)?;
     Ok(lines)
 }
 

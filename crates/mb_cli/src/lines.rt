@@ -44,9 +44,9 @@ fn line_of(
     ensures ids { KeepsIds texts.old texts.new }
 {
     let text = text_of(literal, texts)?;
-    let mut line = vec![in alloc; letter(side), b' '].map_err(|_| NoMemory)?;
+    let mut line = vec![in alloc; letter(side), b' ']?;
     spell(texts.units(text), false, &mut line)?;
-    line.push(b'\n').map_err(|_| NoMemory)?;
+    line.push(b'\n')?;
     Ok(line)
 }
 
@@ -64,7 +64,7 @@ fn add_lines(
 {
     for literal in literals {
         let line = line_of(alloc, side, *literal, texts)?;
-        lines.push(line).map_err(|_| NoMemory)?;
+        lines.push(line)?;
     }
     Ok(())
 }
@@ -74,7 +74,7 @@ fn line_at_the_end(alloc: Global) -> Result<Vec<u8>, NoMemory>
     ensures { IfOk result (λ line. line.items ≡ last_line) }
 {
     let mut line = Vec::new(alloc);
-    line.extend_from_slice(b"= done\n").map_err(|_| NoMemory)?;
+    line.extend_from_slice(b"= done\n")?;
     Ok(line)
 }
 
@@ -93,6 +93,6 @@ pub fn lines_of(
     let mut lines = Vec::new(alloc);
     add_lines(alloc, Side::Left, left, texts, &mut lines)?;
     add_lines(alloc, Side::Right, right, texts, &mut lines)?;
-    lines.push(line_at_the_end(alloc)?).map_err(|_| NoMemory)?;
+    lines.push(line_at_the_end(alloc)?)?;
     Ok(lines)
 }

@@ -111,10 +111,10 @@ fn list_of<T: Drop>(alloc: Global, item: Option<T>) -> Result<Vec<T>, AllocError
 }
 
 fn called(alloc: Global, words: &[&str], call: Call<'_>) -> Result<Ended, NoMemory> {
-    let words = words_of(alloc, words).map_err(|_| NoMemory)?;
-    let shelf = shelf_of(alloc, call.left, call.right).map_err(|_| NoMemory)?;
-    let failing_calls = list_of(alloc, call.failing_call).map_err(|_| NoMemory)?;
-    let failing_puts = list_of(alloc, call.failing_put).map_err(|_| NoMemory)?;
+    let words = words_of(alloc, words)?;
+    let shelf = shelf_of(alloc, call.left, call.right)?;
+    let failing_calls = list_of(alloc, call.failing_call)?;
+    let failing_puts = list_of(alloc, call.failing_put)?;
     let mut library = ShelfLibrary::new(shelf, call.piece.max(1), failing_calls);
     let mut sink = ShelfSink::new(alloc, call.room, failing_puts)?;
     let mut world = World::new(alloc)?;

@@ -63,9 +63,7 @@ fn add_own(
     ensures { OnOk result (bindings.new.items ≡ bindings.old.items ++ own node name fixed) }
 {
     if let Some(name) = name {
-        bindings
-            .push(Binding { node, name, fixed })
-            .map_err(|_| NoMemory)?;
+        bindings.push(Binding { node, name, fixed })?;
     }
     Ok(())
 }

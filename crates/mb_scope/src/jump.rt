@@ -110,12 +110,10 @@ fn nothing_around(alloc: Global, count: usize) -> Result<Vec<Around>, NoMemory>
 {
     let mut known = Vec::new(alloc);
     for _ in 0..count {
-        known
-            .push(Around {
-                function: false,
-                repeated: false,
-            })
-            .map_err(|_| NoMemory)?;
+        known.push(Around {
+            function: false,
+            repeated: false,
+        })?;
     }
     Ok(known)
 }

@@ -26,7 +26,7 @@ fn add_own_name(
 {
     if names_itself(node.kind) {
         if let Some(name) = node.name {
-            names.push((scope, name, true)).map_err(|_| NoMemory)?;
+            names.push((scope, name, true))?;
         }
     }
     Ok(())
@@ -48,9 +48,7 @@ fn add_names(
     let mut bindings = Vec::new(alloc);
     add_bindings(tree, &node.children, &mut bindings)?;
     for binding in &bindings {
-        names
-            .push((scope, binding.name, binding.fixed))
-            .map_err(|_| NoMemory)?;
+        names.push((scope, binding.name, binding.fixed))?;
     }
     Ok(())
 }

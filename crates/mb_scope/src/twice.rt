@@ -18,7 +18,7 @@ fn add_name(seen: &mut HashSet<u32>, name: StrId) -> Result<bool, NoMemory>
     ensures new { IfOk result (λ new. new ≡ not (contains nat_eq seen.old name.0)) }
     ensures added { OnOk result (Updates nat_eq seen.old seen.new name.0 true) }
 {
-    seen.insert(name.0).map_err(|_| NoMemory)
+    Ok(seen.insert(name.0)?)
 }
 
 // The first node that binds a name which an earlier one of these binds.

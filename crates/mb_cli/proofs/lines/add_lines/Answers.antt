@@ -15,7 +15,7 @@ line_of-requires c =
 
 pub loop-literal-preserved : goal.loop-literal-preserved
 loop-literal-preserved c =
-    let pushed : c.push.new.self.items ≡ c.loop-literal.lines.items ++ (c.in_ok-line.line ∷ []) = grind (arith, common_steps, c.push.ensures.items, c.map_err.ensures.variant, c.in_ok-map_err.was) in
+    let pushed : c.push.new.self.items ≡ c.loop-literal.lines.items ++ (c.in_ok-line.line ∷ []) = grind (arith, common_steps, c.in_ok-push.ensures.items) in
     record {
       ids = keeps_ids_more _ _ _ c.loop-literal.invariant.ids c.in_ok-line.ensures.ids;
       lines = λ meant h.

@@ -15,5 +15,5 @@ returns c lefts rights hl hr =
     = c.in_ok-add_lines.ensures.lines lefts hl ∙ ap (λ ls. contents_of ls ++ map (line_of Left) lefts) c.new-lines.ensures.items in
     let two : contents_of c.add_lines-2.new.lines.items ≡ contents_of c.add_lines.new.lines.items ++ map (line_of Right) rights
     = c.in_ok-add_lines-2.ensures.lines rights (AreLiterals-kept _ _ _ _ c.in_ok-add_lines.ensures.ids hr) in
-    let pushed : c.push.new.self.items ≡ c.add_lines-2.new.lines.items ++ (c.in_ok-line_at_the_end.field-0 ∷ []) = grind (arith, common_steps, c.push.ensures.items, c.map_err.ensures.variant, c.in_ok-map_err.was) in
+    let pushed : c.push.new.self.items ≡ c.add_lines-2.new.lines.items ++ (c.in_ok-line_at_the_end.field-0 ∷ []) = grind (arith, common_steps, c.in_ok-push.ensures.items) in
     all_lines c.add_lines.new.lines.items c.add_lines-2.new.lines.items c.push.new.self.items c.in_ok-line_at_the_end.field-0 lefts rights one two pushed c.in_ok-line_at_the_end.ensures
