@@ -49,3 +49,40 @@ fn no_node_has_height_zero(rt: HostRuntime) {
     };
     assert_eq!(rt; tree.height(rt.alloc()), Ok(0));
 }
+
+#[test]
+fn a_node_takes_the_last_trees(rt: HostRuntime) -> Result<(), Fail> {
+    let alloc = rt.alloc();
+    let mut tree = Tree {
+        nodes: Vec::new(alloc),
+    };
+    let mut operands = Vec::new(alloc);
+    for (kind, count, left) in [
+        (Kind::This, 0, 1),
+        (Kind::Name, 0, 2),
+        (Kind::Number, 0, 3),
+        (Kind::Call, 2, 2),
+        (Kind::Seq, 2, 1),
+    ] {
+        assert!(rt; operands.len() >= count);
+        let label = Label {
+            kind,
+            name: None,
+            whole: 7,
+        };
+        tree.build(alloc, label, &mut operands, count)?;
+        assert_eq!(rt; operands.len(), left);
+    }
+    assert_eq!(rt; operands.as_slice(), [NodeId(4)].as_slice());
+    assert_eq!(rt; tree.nodes.len(), 5);
+    assert_eq!(rt;
+        tree.nodes[3].children.as_slice(),
+        [NodeId(1), NodeId(2)].as_slice()
+    );
+    assert_eq!(rt;
+        tree.nodes[4].children.as_slice(),
+        [NodeId(0), NodeId(3)].as_slice()
+    );
+    assert_eq!(rt; tree.nodes[4].whole, 7);
+    Ok(())
+}
