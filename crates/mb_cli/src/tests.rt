@@ -353,17 +353,36 @@ fn has_an_assignment_as_a_choice(nodes: &[mb_tree::Node]) -> bool {
 }
 
 #[test]
-fn reads_a_tree(rt: HostRuntime) -> Result<(), Fail> {
+fn reads_trees(rt: HostRuntime) {
+    // The script, the number of its tree's nodes, and of the names that its scopes bind.
+    let rows: [(&[u8], usize, usize); 3] = [
+        (b"a ? b : c = 4;", 8, 0),
+        (
+            b"({ a: 1, get b() { return 1; }, set b(v) { }, [c]: 2, d, \"e\": 3, 4: 5, f() { } });",
+            21,
+            1,
+        ),
+        (b"let f = function g(a, b) { const c = a; };", 9, 5),
+    ];
+    for (script, nodes, names) in rows {
+        let mut texts = Texts::new(rt.alloc());
+        match read_tree(rt.alloc(), script, &mut texts) {
+            Ok(program) => {
+                assert_eq!(rt; program.tree.nodes.len(), nodes, "{script:?}");
+                assert_eq!(rt; program.scopes.names.len(), names, "{script:?}");
+            }
+            Err(fault) => assert!(rt; false, "{fault:?}"),
+        }
+    }
+}
+
+#[test]
+fn reads_an_assignment_as_a_choice(rt: HostRuntime) {
     let mut texts = Texts::new(rt.alloc());
     match read_tree(rt.alloc(), b"a ? b : c = 4;", &mut texts) {
-        Ok(program) => {
-            assert_eq!(rt; program.tree.nodes.len(), 8);
-            assert!(rt; has_an_assignment_as_a_choice(&program.tree.nodes));
-            assert!(rt; program.scopes.names.is_empty());
-        }
+        Ok(program) => assert!(rt; has_an_assignment_as_a_choice(&program.tree.nodes)),
         Err(fault) => assert!(rt; false, "{fault:?}"),
     }
-    Ok(())
 }
 
 #[test]
