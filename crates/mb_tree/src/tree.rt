@@ -1,5 +1,5 @@
 // Trees.
-ghost use Rattle.std.specs.Prelude.{◌≡◌, ◌+◌, ◌<◌, ◌≤◌, ◌^◌, List, [], ◌∷◌, ◌++◌, length, EachIndex, IfOk, OnOk, vec_len};
+ghost use Rattle.std.specs.Prelude.{◌≡◌, ◌+◌, ◌<◌, ◌≤◌, ◌^◌, List, [], ◌∷◌, ◌++◌, length, EachIndex, IfOk, OnErr, OnOk, vec_len};
 ghost use Rattle.mb_tree.specs.Roses.{Rose, write, shapes, shape, id_of};
 ghost use Rattle.mb_tree.specs.Heights.{height_of, most_at, IsWhole, AreAmong};
 
@@ -38,7 +38,7 @@ pub struct Tree {
 
 impl Tree {
     /// Adds a node whose parts are the last `count` of these trees, and puts it in their place. A tree of
-    /// [`MOST_NODES`] nodes takes no more: that is `NoMemory`, after which `operands` may lack the parts.
+    /// [`MOST_NODES`] nodes takes no more: that is `NoMemory`.
     pub fn build(
         &mut self,
         alloc: Global,
@@ -51,6 +51,7 @@ impl Tree {
         ensures built { (front kids : List NodeId) → operands.old.items ≡ front ++ kids → length kids ≡ count → OnOk result (
             (operands.new.items ≡ front ++ id_of (length (shapes self.old)) ∷ [])
             × (shapes self.new ≡ shapes self.old ++ shape label kids ∷ [])) }
+        ensures kept { OnErr result ((operands.new.items ≡ operands.old.items) × (shapes self.new ≡ shapes self.old)) }
     {
         if self.nodes.len() >= MOST_NODES {
             return Err(NoMemory);
@@ -58,13 +59,14 @@ impl Tree {
         let from = operands.len() - count;
         let id = NodeId(self.nodes.len() as u32);
         let children = Vec::from_slice(alloc, &operands[from..])?;
-        operands.truncate(from);
+        operands.reserve(1)?;
         self.nodes.push(Node {
             kind: label.kind,
             name: label.name,
             whole: label.whole,
             children,
         })?;
+        operands.truncate(from);
         operands.push(id)?;
         Ok(())
     }
