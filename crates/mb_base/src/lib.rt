@@ -6,7 +6,7 @@ mod value;
 
 pub use fuel::{Fuel, Spent};
 use std::alloc::{AllocError, AllocFailed};
-pub use value::{Key, NodeId, ObjId, ScopeId, Side, StrId, Value};
+pub use value::{Key, NodeId, ObjId, ScopeId, Side, StrId, SymId, Value};
 
 /// Memory was wanted and wasn't there. It is the one refusal without a cause in a contract.
 #[derive(Clone, Copy, Debug, PartialEq, Eq)]

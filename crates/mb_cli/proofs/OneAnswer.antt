@@ -4,24 +4,24 @@ use Rattle.std.proofs.lemmas.List.{length-map}
 use Rattle.std.proofs.lemmas.Bool.{cases_lt}
 use Rattle.mb_base.specs.declared.value.StrId.{StrId}
 use Rattle.mb_token.specs.declared.token.Spanned.{Spanned}
-use Rattle.mb_lexer.specs.Reading.{Lexeme, HasTokens}
-use Rattle.mb_lexer.specs.Answers.{AreSeen, HasFault}
+use Rattle.mb_lexer.specs.Reading.{Lexeme, HasTokens, HasFault}
+use Rattle.mb_lexer.specs.Shown.{AreSeen}
 use Rattle.mb_lexer.specs.declared.fault.LexFault.{LexFault}
 use Rattle.mb_lexer.specs.declared.fault.LexFault.TheVariants as lexical
 use Rattle.mb_lexer.proofs.Lawful.{one_list, one_first_fault, not_tokens_and_fault, tokens_or_fault}
 use Rattle.mb_tree.specs.Roses.{Rose, write}
 use Rattle.mb_tree.specs.Heights.{height_of, whole}
-use Rattle.mb_parse_expr.specs.Grammar.{Statements}
-use Rattle.mb_parse_expr.specs.Renaming.{renamed_spanned, renamed_tokens, renamed, renamed_all}
-use Rattle.mb_parse_expr.proofs.Renamed.{height_renamed, write_renamed, statements_renamed}
-use Rattle.mb_parse_stmt.specs.Script.{IsScript}
+use Rattle.mb_grammar.specs.Grammar.{Statements}
+use Rattle.mb_grammar.specs.Renaming.{renamed_spanned, renamed_tokens, renamed, renamed_all}
+use Rattle.mb_grammar.proofs.Renamed.{height_renamed, write_renamed, statements_renamed}
+use Rattle.mb_grammar.specs.Script.{IsScript}
 use Rattle.mb_scope.specs.declared.fault.NameFault.{NameFault}
 use Rattle.mb_scope.specs.declared.fault.NameFault.TheVariants as static
 use Rattle.mb_scope.specs.Faults.{Breaks, IsRight, IsLeast}
 use Rattle.mb_cli.specs.declared.status.ScriptKind.{ScriptKind}
 use Rattle.mb_cli.specs.declared.status.ScriptKind.TheVariants as k
 use Rattle.mb_cli.specs.declared.tree.TreeFault.TheVariants.{Bad}
-use Rattle.mb_cli.specs.TreeFaults.{of_lexer, of_rules}
+use Rattle.mb_cli.specs.machine.TreeFaults.{of_lexer, of_rules}
 use Rattle.mb_cli.specs.Trees.{highest, AreTokens, Parses, HasTree, HasNoScript, IsTooHigh, BreaksFirst, ScriptFault}
 use Rattle.mb_scope.proofs.Ruling.{one_least_fault}
 use Rattle.mb_scope.proofs.Deciding.{right_or_least}

@@ -8,18 +8,18 @@ use Rattle.std.proofs.lemmas.List.{map-append}
 use Rattle.mb_base.specs.declared.value.NodeId.{NodeId}
 use Rattle.mb_base.specs.declared.value.StrId.{StrId}
 use Rattle.mb_tree.specs.Roses.{Shape}
-use Rattle.mb_parse_expr.specs.Renaming.{renamed_name, renamed_shape}
+use Rattle.mb_grammar.specs.Renaming.{renamed_name, renamed_shape}
 use Rattle.mb_scope.specs.declared.binding.Binding.{Binding}
 use Rattle.mb_scope.specs.declared.binding.Declares.{Declares}
 use Rattle.mb_scope.specs.declared.binding.Declares.TheVariants.{Itself, Decls, Nothing}
 use Rattle.mb_scope.specs.declared.jump.Jump.{Jump}
 use Rattle.mb_scope.specs.declared.jump.Jump.TheVariants as j
-use Rattle.mb_scope.specs.declared.target.Form.TheVariants.{Simple, Grouped}
+use Rattle.mb_scope.specs.declared.target.TargetType.TheVariants.{Simple, Grouped}
 use Rattle.mb_scope.specs.declared.target.Use.{Use}
 use Rattle.mb_scope.specs.declared.target.Use.TheVariants.{Assigns, Deletes, Reads}
 use Rattle.mb_scope.specs.declared.fault.NameFault.{NameFault}
 use Rattle.mb_scope.specs.declared.fault.NameFault.TheVariants.{Twice, Stray, BadTarget, NoMemory}
-use Rattle.mb_scope.specs.Kinds.{declares_of, is_decl, is_function, is_loop, jump_of, form_of, use_of, is_property}
+use Rattle.mb_scope.specs.Kinds.{declares_of, is_decl, is_function, is_loop, jump_of, target_type_of, use_of, is_property, group_part, operand_of}
 use Rattle.mb_scope.specs.Bindings.{own, decl_of, decl_binding, bound_as, bound_at, bound_by, bindings_of, parts_in, catch_block, in_block, together, Repeats, IsTwice}
 use Rattle.mb_scope.specs.Jumps.{IsPart, InFunction, direct_function, outer_function, InLoop, direct_loop, outer_loop, Strays, IsStray}
 use Rattle.mb_scope.specs.Targets.{IsTarget, simple, grouped, IsProperty, MissesAt, IsBadTarget}
@@ -148,11 +148,11 @@ module _ (f : StrId → StrId) where
     target_before : {id : NodeId} → IsTarget others id → IsTarget shapes id
     target_before (simple {id = id} {node = node} at form) =
         let b = before id.0 node at.is in
-        simple (record { is = b.there }) (subst (λ (n : Shape). form_of n.label.kind ≡ Simple) (sym b.is) form)
+        simple (record { is = b.there }) (subst (λ (n : Shape). target_type_of n.label.kind ≡ Simple) (sym b.is) form)
     target_before (grouped {id = id} {part = part} {node = node} at form first q) =
         let b = before id.0 node at.is in
-        grouped (record { is = b.there }) (subst (λ (n : Shape). form_of n.label.kind ≡ Grouped) (sym b.is) form)
-        (subst (λ (n : Shape). slice_get n.children 0 ≡ Some part) (sym b.is) first) (target_before q)
+        grouped (record { is = b.there }) (subst (λ (n : Shape). target_type_of n.label.kind ≡ Grouped) (sym b.is) form)
+        (subst (λ (n : Shape). group_part n.label.kind n.children ≡ Some part) (sym b.is) first) (target_before q)
 
     property_before : (id : NodeId) → IsProperty others id → IsProperty shapes id
     property_before id p =
@@ -169,7 +169,7 @@ module _ (f : StrId → StrId) where
     bad_renamed id b = record {
       node = renamed_shape f b.node;
       is = there_too id.0 b.node b.is;
-      misses = misses_renamed (use_of b.node.label.kind) (slice_get b.node.children 0) b.misses;
+      misses = misses_renamed (use_of b.node.label.kind) (operand_of b.node.label.kind b.node.children) b.misses;
     }
 
     pub breaks_renamed : (fault : NameFault) → Breaks shapes fault → Breaks (map (renamed_shape f) shapes) fault

@@ -4,7 +4,7 @@ use Rattle.std.specs.Prelude.{Vec}
 use Rattle.std.specs.declared.alloc.Global.{Global}
 use Rattle.std.specs.List.{concat}
 use Rattle.std.proofs.lemmas.List.{append-nil, take-append-drop}
-use Rattle.mb_cli.specs.Lines.{contents_of}
+use Rattle.mb_cli.specs.machine.Lines.{contents_of}
 
 -- the bytes of the first k lines
 abbrev pub front : ℕ → List (Vec ℕ Global) → List ℕ

@@ -1,5 +1,5 @@
 -- Tokens of the whole language: how many there are, and that a table holds their texts.
-use Rattle.std.proofs.Common.{◌≡◌, ℕ, ◌+◌, ◌≤◌, Bool, false, true≢false, List, [], ◌∷◌, ◌++◌, suc, length, refl, sym, ap, ◌∙◌, arith}
+use Rattle.std.proofs.Common.{◌≡◌, ℕ, ◌+◌, ◌≤◌, Bool, false, true≢false, List, [], ◌∷◌, ◌++◌, suc, length, refl, sym, ap, subst, ◌∙◌, arith}
 use Rattle.std.specs.List.{flat_map}
 use Rattle.std.specs.Str.{chars}
 use Rattle.std.proofs.lemmas.Str.{len_utf8_bounds, encodes-chars}
@@ -7,13 +7,15 @@ use Rattle.mb_token.specs.declared.mark.Mark.{Mark}
 use Rattle.mb_token.specs.declared.mark.Mark.TheVariants as m
 use Rattle.mb_token.specs.Marks.{mark_text}
 use Rattle.mb_lexer.specs.Characters.{width}
-use Rattle.mb_lexer.specs.Parts.{spelled}
+use Rattle.mb_lexer.specs.Parts.{part_text}
 use Rattle.mb_lexer.specs.Tokens.{Content, name, soft, reserved, whole, text, mark, IsToken}
 use Rattle.mb_lexer.specs.Reading.{Lexeme, end, Reads, HasTokens}
-use Rattle.mb_lexer.specs.Answers.{AreSeen}
+use Rattle.mb_lexer.specs.Shown.{AreSeen}
 use Rattle.mb_lexer.proofs.Parting.{width-append}
 use Rattle.mb_lexer.proofs.Tiling.{width-bytes}
 use Rattle.mb_token.specs.declared.token.Spanned.{Spanned}
+use Rattle.mb_text.specs.Texts.{AreDistinct}
+use Rattle.mb_cli.specs.Trees.{AreTokens}
 
 mark_some : (k : Mark) → [] ≡ mark_text k → ⊥
 mark_some m.TripleEqual e = cc
@@ -67,8 +69,8 @@ few_characters [] at line cs reads = omega arith
 few_characters (t ∷ ts) at line cs (parts, token, rest, parted, is, from, to, after, more) =
     let those : length ts ≤ width rest = few_characters ts t.to false rest more in
     let one : 1 ≤ width token = wide t.content token rest is in
-    let all : width cs ≡ width (flat_map spelled parts) + (width token + width rest)
-    = ap width parted.whole ∙ width-append (flat_map spelled parts) (token ++ rest) ∙ ap (λ n. width (flat_map spelled parts) + n) (width-append token rest) in
+    let all : width cs ≡ width (flat_map part_text parts) + (width token + width rest)
+    = ap width parted.whole ∙ width-append (flat_map part_text parts) (token ++ rest) ∙ ap (λ n. width (flat_map part_text parts) + n) (width-append token rest) in
     omega arith
 
 -- there are no more tokens than bytes
@@ -85,3 +87,9 @@ seen_length texts tokens ts seen = absurd seen
 
 pub few_tokens : (bytes : List ℕ) (texts : List (List ℕ)) (tokens : List Spanned) (ts : List Lexeme) → HasTokens bytes ts → AreSeen texts tokens ts → length tokens ≤ length bytes
 few_tokens bytes texts tokens ts has seen = let few = few_lexemes bytes ts has in let same = seen_length texts tokens ts seen in omega arith
+
+-- the tokens that a lexer found are the bytes'
+pub are_tokens : (texts : List (List ℕ)) (bytes : List ℕ) (tokens read : List Spanned) → (ts : List Lexeme) × HasTokens bytes ts × AreSeen texts tokens ts
+    → read ≡ tokens → AreDistinct texts → AreTokens texts bytes read
+are_tokens texts bytes tokens read (ts, has, seen) is distinct =
+    record { lexemes = ts; has = has; seen = subst (λ x. AreSeen texts x ts) (sym is) seen; distinct = distinct }

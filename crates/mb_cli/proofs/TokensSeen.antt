@@ -10,9 +10,9 @@ use Rattle.mb_text.specs.Texts.{AreDistinct, KeepsIds}
 use Rattle.mb_text.proofs.Kept.{keeps_ids_none}
 use Rattle.mb_lexer.specs.Tokens.{Content, name, soft, reserved, whole, text, mark}
 use Rattle.mb_lexer.specs.Reading.{Lexeme}
-use Rattle.mb_lexer.specs.Answers.{Shows, IsSeen, AreSeen}
+use Rattle.mb_lexer.specs.Shown.{Shows, IsSeen, AreSeen}
 use Rattle.mb_lexer.proofs.Seen.{seen_kept}
-use Rattle.mb_parse_expr.specs.Renaming.{renamed_token, renamed_spanned, renamed_tokens}
+use Rattle.mb_grammar.specs.Renaming.{renamed_token, renamed_spanned, renamed_tokens}
 use Rattle.mb_cli.proofs.Tables.{moved, moved_to, holds, no_texts}
 
 module _ (texts others : List (List ℕ)) (distinct : AreDistinct others) where

@@ -1,28 +1,25 @@
--- What the words of a command line ask for.
-use Rattle.std.specs.Prelude.{ℕ, ◌==◌, ◌&&◌, not, Bool, false, List, [], ◌∷◌, Option, Some, None, if◌then◌else◌, codes}
-use Rattle.std.specs.Str.{bytes_eq}
-use Rattle.mb_cli.specs.declared.words.Command.{Command}
-use Rattle.mb_cli.specs.declared.words.Command.TheVariants as command
+-- What the words of a command line ask for, of what the program can do today.
+use Rattle.std.specs.Prelude.{ℕ, List, [], ◌∷◌, nat_eq, Bool, true, false, Option, Some, None, Result, Ok, Err, if◌then◌else◌}
+use Rattle.mb_words.specs.declared.fault.WordsKind.{WordsKind}
+use Rattle.mb_words.specs.declared.fault.WordsKind.TheVariants.{Usage}
+use Rattle.mb_words.specs.Settings.{Asked, Reading, SettingsOf, to_run, to_share, to_check, to_load, to_run_sides}
 
 -- the commands, with the names of their files
 pub data Settings : Type 0 where
   run : (left right : List ℕ) → Settings
   check : (file : List ℕ) → Settings
 
--- a word that is neither empty nor begins with `-`
-abbrev pub is_operand : List ℕ → Bool
-is_operand [] = false
-is_operand (b ∷ bs) = not (b == 45)
+-- what the program can do today: a check, and a run without a policy, a schedule or a trace and with the budget that
+-- stands where none is given
+abbrev pub today : Asked → Result Settings WordsKind
+today (to_check file) = Ok (check file)
+today (to_run left right None [] budget false) = if nat_eq budget 1000000 then Ok (run left right) else Err Usage
+today _ = Err Usage
 
--- `check` and an operand, or `run` and two
-abbrev pub settings_of : List (List ℕ) → Option Settings
-settings_of (word ∷ file ∷ []) =
-    if bytes_eq word (codes "check") && is_operand file then Some (check file) else None
-settings_of (word ∷ left ∷ right ∷ []) =
-    if bytes_eq word (codes "run") && (is_operand left && is_operand right) then Some (run left right) else None
-settings_of _ = None
+abbrev pub by_reading : Reading → Result Settings WordsKind
+by_reading (Ok asked) = today asked
+by_reading (Err kind) = Err kind
 
--- the settings as the code has them
-abbrev pub meant_by : Command → Settings
-meant_by (command.Run left right) = run left.now right.now
-meant_by (command.Check file) = check file.now
+-- the settings of the words after the program's name, or why they are refused
+abbrev pub settings_of : List (List ℕ) → Result Settings WordsKind
+settings_of words = by_reading (SettingsOf words)

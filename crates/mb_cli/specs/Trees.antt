@@ -2,12 +2,12 @@
 use Rattle.std.specs.Prelude.{ℕ, ◌<◌, ◌≤◌, List, []}
 use Rattle.mb_token.specs.declared.token.Spanned.{Spanned}
 use Rattle.mb_text.specs.Texts.{AreDistinct}
-use Rattle.mb_lexer.specs.Reading.{Lexeme, HasTokens}
-use Rattle.mb_lexer.specs.Answers.{AreSeen, HasFault}
+use Rattle.mb_lexer.specs.Reading.{Lexeme, HasTokens, HasFault}
+use Rattle.mb_lexer.specs.Shown.{AreSeen}
 use Rattle.mb_lexer.specs.declared.fault.LexFault.TheVariants as lexical
 use Rattle.mb_tree.specs.Roses.{Rose, write}
 use Rattle.mb_tree.specs.Heights.{height_of}
-use Rattle.mb_parse_stmt.specs.Script.{IsScript}
+use Rattle.mb_grammar.specs.Script.{IsScript}
 use Rattle.mb_scope.specs.Faults.{IsRight, IsLeast}
 use Rattle.mb_scope.specs.declared.fault.NameFault.{NameFault}
 use Rattle.mb_scope.specs.declared.fault.NameFault.TheVariants as static
@@ -36,13 +36,13 @@ pub record Parses (texts : List (List ℕ)) (bytes : List ℕ) (tree : Rose) : T
   pub script : IsScript tokens tree
 
 -- the same, not too high, and by the static rules
-pub record Reads (texts : List (List ℕ)) (bytes : List ℕ) (tree : Rose) : Type 0 where
+pub record ReadsAs (texts : List (List ℕ)) (bytes : List ℕ) (tree : Rose) : Type 0 where
   pub parses : Parses texts bytes tree
   pub low : height_of tree ≤ highest
   pub right : IsRight (write [] tree)
 
 abbrev pub HasTree : List ℕ → Type 0
-HasTree bytes = (texts : List (List ℕ)) × (tree : Rose) × Reads texts bytes tree
+HasTree bytes = (texts : List (List ℕ)) × (tree : Rose) × ReadsAs texts bytes tree
 
 -- the bytes have tokens that are no script
 pub record HasNoScript (bytes : List ℕ) : Type 0 where

@@ -1,21 +1,23 @@
 // The command `check`: whether a script has a tree.
-ghost use Rattle.std.specs.Prelude.{◌≡◌, ◌≢◌, ◌≤◌, ◌⊎◌, ℕ, List, [], ◌∷◌, Option, Err, Some, IsSome, IsTrue, IfOk, IfErr, IfSome, MatchResult, vec_len};
+ghost use Rattle.std.specs.Prelude.{◌≡◌, ◌≢◌, ℕ, List, [], ◌∷◌, Option, Err, Some, IsTrue, IfOk, IfSome};
 ghost use Rattle.std.specs.List.{concat};
-ghost use Rattle.mb_outer.specs.Causes.{Rose};
 ghost use Rattle.mb_outer.specs.Shelf.{Shelf, held};
-ghost use Rattle.mb_cli.specs.Trees.{longest_script};
-ghost use Rattle.mb_cli.specs.Lines.{contents_of};
-ghost use Rattle.mb_cli.specs.Output.{right_line};
-ghost use Rattle.mb_cli.specs.Outcome.{PassesCheck, HasCause, checking, OnRead, IsJudgement};
-ghost use Rattle.mb_cli.specs.Whole.{IsWhole, IsReadUpTo};
+ghost use Rattle.mb_text.specs.Texts.{AreDistinct};
+ghost use Rattle.mb_cli.specs.declared.status.Status.TheVariants.{ReadFault};
+ghost use Rattle.mb_cli.specs.Serving.{IsAnswer, TellsFaults, IsFaultless, OnRead};
+ghost use Rattle.mb_cli.specs.Tasks.{IsThere, Writes, left_of, checking, right_line};
+ghost use Rattle.mb_cli.specs.machine.Lines.{contents_of};
+ghost use Rattle.mb_cli.specs.machine.Refusals.{ending};
+ghost use Rattle.mb_cli.specs.machine.Scanned.{IsFed, IsScanned};
 
-use crate::run::refusal;
-use crate::status::{Status, Which};
-use crate::tree::judge;
-use crate::whole::read_whole;
+use crate::pieces::scan;
+use crate::refusal::{Refusal, refuse};
+use crate::status::Which;
+use crate::tree::judge_lexed;
 use mb_base::{NoMemory, Side};
-use mb_lexer::LONGEST_SCRIPT;
+use mb_lexer::Lexer;
 use mb_outer::Library;
+use mb_text::Texts;
 use std::alloc::Global;
 
 // The line that tells that a script is right.
@@ -36,19 +38,26 @@ fn lines_of_a_right_script(alloc: Global) -> Result<Vec<Vec<u8>>, NoMemory>
     Ok(lines)
 }
 
-// The lines that tell of a script, whose text was read, or was too long.
-fn lines_judged(alloc: Global, text: Option<Vec<u8>>) -> Result<Vec<Vec<u8>>, Status>
-    requires { IfSome text (λ bytes. vec_len bytes ≤ longest_script) }
-    ensures lines { (held : Option (List ℕ)) → IsWhole longest_script held text → IfOk result (λ lines. PassesCheck held × (concat (contents_of lines.items) ≡ right_line)) }
-    ensures cause { (held : Option (List ℕ)) → IsWhole longest_script held text → IfErr result (HasCause (checking held)) }
-    ensures judged { IfErr result IsJudgement }
+// The lines that tell of a script, which was read, or was too long.
+fn lines_judged(
+    alloc: Global,
+    script: Option<Lexer>,
+    texts: &mut Texts,
+) -> Result<Vec<Vec<u8>>, Refusal>
+    requires fed { IfSome script (IsFed texts.old) }
+    requires distinct { AreDistinct texts.old }
+    ensures lines { (held : Option (List ℕ)) → IsScanned texts.old held script
+        → IfOk result (λ lines. Writes (checking held) (concat (contents_of lines.items))) }
+    ensures answer { (held : Option (List ℕ)) → IsScanned texts.old held script
+        → IsAnswer (checking held) (ending result) }
+    ensures judged { result ≢ Err Refusal.ReadFault }
 {
-    let Some(bytes) = text else {
-        return Err(Status::TooLong(Which::Left));
+    let Some(lexer) = script else {
+        return Err(Refusal::TooLong(Which::Script(Side::LEFT)));
     };
-    match judge(alloc, &bytes) {
+    match judge_lexed(alloc, lexer, texts) {
         Ok(()) => Ok(lines_of_a_right_script(alloc)?),
-        Err(fault) => Err(refusal(Side::Left, fault)),
+        Err(fault) => Err(refuse(Side::LEFT, fault)),
     }
 }
 
@@ -57,20 +66,21 @@ pub fn check_lines<L: Library>(
     alloc: Global,
     file: &str,
     library: &mut L,
-) -> Result<Vec<Vec<u8>>, Status>
+) -> Result<Vec<Vec<u8>>, Refusal>
     ensures shelf { L.shelf library.new ≡ L.shelf library.old }
     ensures sound { IsTrue (L.sound library.old) → IsTrue (L.sound library.new) }
-    ensures early { IfErr result (λ status. (status ≡ Status.ReadFault) ⊎ IsJudgement status) }
+    ensures answer { (s : Shelf) → L.shelf library.old ≡ Some s
+        → IsAnswer (checking (held file.now s)) (ending result) }
     ensures lines { (s : Shelf) → L.shelf library.old ≡ Some s
-        → IfOk result (λ lines. PassesCheck (held file.now s) × (concat (contents_of lines.items) ≡ right_line)) }
-    ensures cause { (s : Shelf) → L.shelf library.old ≡ Some s → IfErr result (HasCause (checking (held file.now s))) }
-    ensures further { (s : Shelf) (rest : List ℕ) → L.shelf library.old ≡ Some s → L.rest library.new ≡ Some rest
-        → MatchResult result (λ _. IsReadUpTo longest_script s file.now rest) (λ status. OnRead status (IsReadUpTo longest_script s file.now rest)) }
-    ensures later { L.faults library.old ≤ L.faults library.new }
-    ensures failed { result ≡ Err Status.ReadFault → Rose (L.faults library.old) (L.faults library.new) }
-    ensures counted { result ≢ Err Status.ReadFault → L.faults library.new ≡ L.faults library.old }
-    ensures never { (s : Shelf) → L.shelf library.old ≡ Some s → IsSome (held file.now s) → IsTrue (L.sound library.old) → result ≢ Err Status.ReadFault }
+        → IfOk result (λ lines. Writes (checking (held file.now s)) (concat (contents_of lines.items))) }
+    ensures reads { TellsFaults ReadFault (ending result) (L.faults library.old) (L.faults library.new) }
+    ensures faultless { (s : Shelf) → L.shelf library.old ≡ Some s
+        → IsThere (checking (held file.now s)) → IsTrue (L.sound library.old)
+        → IsFaultless ReadFault (ending result) (L.faults library.old) (L.faults library.new) }
+    ensures read { (s : Shelf) → L.shelf library.old ≡ Some s
+        → OnRead (ending result) (L.rest library.new ≡ left_of (checking (held file.now s))) }
 {
-    let text = read_whole(alloc, library, file, LONGEST_SCRIPT)?;
-    lines_judged(alloc, text)
+    let mut texts = Texts::new(alloc);
+    let script = scan(alloc, library, file, &mut texts)?;
+    lines_judged(alloc, script, &mut texts)
 }

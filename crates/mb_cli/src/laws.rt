@@ -1,7 +1,12 @@
-// The laws of what a script's bytes are.
-ghost use Rattle.std.specs.Prelude.{◌≡◌, ◌⊎◌, ℕ, List};
+// The laws of what a script's bytes are, and of how a command ends.
+ghost use Rattle.std.specs.Prelude.{◌≡◌, ◌≢◌, ◌⊎◌, ◌↔◌, ℕ, List};
+ghost use Rattle.mb_base.specs.declared.value.Side.{Side};
 ghost use Rattle.mb_cli.specs.declared.status.ScriptKind.{ScriptKind};
-ghost use Rattle.mb_cli.specs.Form.{Literal, HasLiterals};
+ghost use Rattle.mb_cli.specs.declared.status.Status.{Status};
+ghost use Rattle.mb_cli.specs.declared.status.Status.TheVariants.{Done, ReadFault, WriteFault, BadScript, TooLong, NoMemory};
+ghost use Rattle.mb_cli.specs.declared.status.Which.{Which};
+ghost use Rattle.mb_cli.specs.Serving.{IsAnswer};
+ghost use Rattle.mb_cli.specs.Tasks.{Task, Ends, Writes};
 ghost use Rattle.mb_cli.specs.Trees.{HasTree, ScriptFault};
 
 /// No bytes have a tree and a fault.
@@ -19,7 +24,20 @@ pub fn a_script_has_a_tree_or_a_fault()
     ensures { (bytes : List ℕ) → HasTree bytes ⊎ ((kind : ScriptKind) × ScriptFault bytes kind) }
 {}
 
-/// Scripts of the first form have a tree.
-pub fn scripts_of_the_first_form_have_a_tree()
-    ensures { (bytes : List ℕ) (literals : List Literal) → HasLiterals bytes literals → HasTree bytes }
+/// The scripts of a command give one answer at most, and one text; they give a text exactly where each is accepted.
+pub fn a_task_ends_one_way()
+    ensures end { (task : Task) (a b : Status) → Ends task a → Ends task b → a ≡ b }
+    ensures text { (task : Task) (a b : List ℕ) → Writes task a → Writes task b → a ≡ b }
+    ensures accepted { (task : Task) → Ends task Done → (text : List ℕ) × Writes task text }
+    ensures only_accepted { (task : Task) (text : List ℕ) → Writes task text → Ends task Done }
+{}
+
+/// Where no fault and no want of memory is answered, each answer comes exactly where the scripts give it.
+pub fn answers_are_exact()
+    ensures done { (task : Task) (answer : Status) → IsAnswer task answer
+        → answer ≢ ReadFault → answer ≢ WriteFault → answer ≢ NoMemory → (answer ≡ Done) ↔ Ends task Done }
+    ensures refused { (task : Task) (answer : Status) (side : Side) (kind : ScriptKind) → IsAnswer task answer
+        → answer ≢ ReadFault → answer ≢ NoMemory → (answer ≡ BadScript side kind) ↔ Ends task (BadScript side kind) }
+    ensures too_long { (task : Task) (answer : Status) (which : Which) → IsAnswer task answer
+        → answer ≢ ReadFault → answer ≢ NoMemory → (answer ≡ TooLong which) ↔ Ends task (TooLong which) }
 {}

@@ -3,32 +3,30 @@
 
 mod check;
 mod command;
+mod first_form;
 mod laws;
-mod lines;
-mod number;
+mod pieces;
 mod puts;
-mod reading;
-mod run;
-mod script;
+mod refusal;
 mod status;
 #[cfg(test)]
 mod tests;
-mod token;
 mod tree;
-mod whole;
 mod words;
 mod world;
 
 pub use command::serve;
+pub use first_form::{
+    literals_are_unique, scripts_of_the_first_form_have_a_tree, tokens_are_unique,
+};
 pub use laws::{
-    a_script_has_a_tree_or_a_fault, a_script_has_one_fault, never_a_tree_and_a_fault,
-    scripts_of_the_first_form_have_a_tree,
+    a_script_has_a_tree_or_a_fault, a_script_has_one_fault, a_task_ends_one_way, answers_are_exact,
+    never_a_tree_and_a_fault,
 };
 use mb_base::Side;
 use mb_outer::{FileLibrary, WriteSink};
-pub use reading::tokens_are_unique;
-pub use script::literals_are_unique;
-pub use status::{ScriptKind, Status, Which, WordsKind};
+use mb_words::WordsKind;
+pub use status::{ScriptKind, Status, Which};
 use std::io::ErrorKind;
 use std::process::ExitCode;
 use thiserror::Error;
@@ -40,6 +38,12 @@ pub use world::World;
 enum Complaint {
     #[error("membrane: words: usage")]
     Usage,
+    #[error("membrane: words: schedule at {at}")]
+    Schedule {
+        at: u32,
+    },
+    #[error("membrane: words: budget")]
+    Budget,
     #[error("membrane: read failed")]
     ReadFault,
     #[error("membrane: write failed")]
@@ -49,17 +53,19 @@ enum Complaint {
         side: &'static str,
         kind: ScriptKind,
     },
-    #[error("membrane: too long: left")]
-    LongLeft,
+    #[error("membrane: too long: {side}")]
+    Long {
+        side: &'static str,
+    },
     #[error("membrane: no memory")]
     NoMemory,
 }
 
 // A side as it is told.
 fn name_of(side: Side) -> &'static str {
-    match side {
-        Side::Left => "left",
-        Side::Right => "right",
+    match side.0 {
+        0 => "left",
+        _ => "right",
     }
 }
 
@@ -68,13 +74,17 @@ fn complaint_of(status: Status) -> Option<Complaint> {
     match status {
         Status::Done => None,
         Status::BadWords(WordsKind::Usage) => Some(Complaint::Usage),
+        Status::BadWords(WordsKind::Schedule { at }) => Some(Complaint::Schedule { at }),
+        Status::BadWords(WordsKind::Budget) => Some(Complaint::Budget),
         Status::ReadFault => Some(Complaint::ReadFault),
         Status::WriteFault => Some(Complaint::WriteFault),
         Status::BadScript { side, kind } => Some(Complaint::Script {
             side: name_of(side),
             kind,
         }),
-        Status::TooLong(Which::Left) => Some(Complaint::LongLeft),
+        Status::TooLong(Which::Script(side)) => Some(Complaint::Long {
+            side: name_of(side),
+        }),
         Status::NoMemory => Some(Complaint::NoMemory),
     }
 }

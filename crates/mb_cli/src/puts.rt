@@ -2,8 +2,7 @@
 ghost use Rattle.std.specs.Prelude.{◌≡◌, ◌≤◌, ◌++◌, ℕ, List, Some, length};
 ghost use Rattle.std.specs.List.{concat};
 ghost use Rattle.mb_outer.specs.Causes.{Rose};
-ghost use Rattle.mb_cli.specs.Lines.{contents_of};
-ghost use Rattle.mb_cli.specs.Outcome.{IsPrefix};
+ghost use Rattle.mb_cli.specs.machine.Lines.{contents_of, IsPrefix};
 
 use mb_outer::{Put, Sink};
 
@@ -15,8 +14,10 @@ pub fn put_lines<K: Sink>(lines: &[Vec<u8>], sink: &mut K) -> Put
     ensures text { (taken : List ℕ) → K.taken sink.old ≡ Some taken → result ≡ Put.All
         → K.taken sink.new ≡ Some (taken ++ concat (contents_of lines.now)) }
     ensures front { (taken : List ℕ) → K.taken sink.old ≡ Some taken
-        → (front : List ℕ) × IsPrefix front (concat (contents_of lines.now)) × (K.taken sink.new ≡ Some (taken ++ front)) }
-    ensures never { (room : ℕ) → K.room sink.old ≡ Some room → length (concat (contents_of lines.now)) ≤ room → result ≡ Put.All }
+        → (front : List ℕ) × IsPrefix front (concat (contents_of lines.now))
+        × (K.taken sink.new ≡ Some (taken ++ front)) }
+    ensures never { (room : ℕ) → K.room sink.old ≡ Some room
+        → length (concat (contents_of lines.now)) ≤ room → result ≡ Put.All }
 {
     for line in lines {
         match sink.put(line.as_slice()) {

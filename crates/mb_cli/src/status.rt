@@ -2,14 +2,9 @@
 ghost use Rattle.std.specs.Prelude.{◌≡◌};
 ghost use Rattle.mb_cli.specs.ExitCode.{code_of};
 
-use mb_base::{NoMemory, NodeId, Side};
+use mb_base::{NodeId, Side};
+use mb_words::WordsKind;
 use std::fmt;
-
-/// What is wrong with the words of a command line.
-#[derive(Clone, Copy, Debug, PartialEq, Eq)]
-pub enum WordsKind {
-    Usage,
-}
 
 /// What is wrong with a script. A place is an offset of bytes, and a node is a place in the script's tree.
 #[derive(Clone, Copy, Debug, PartialEq, Eq)]
@@ -50,8 +45,8 @@ impl fmt::Display for ScriptKind {
 /// The text that is too long.
 #[derive(Clone, Copy, Debug, PartialEq, Eq)]
 pub enum Which {
-    /// The left script, which is the one that `check` reads.
-    Left,
+    /// The script of that side; the one that `check` reads is a left one.
+    Script(Side),
 }
 
 /// How a call of [`serve`](crate::serve) ended.
@@ -59,7 +54,7 @@ pub enum Which {
 pub enum Status {
     /// The whole text was put.
     Done,
-    /// The words don't name a command with its operands.
+    /// The words are refused, or ask for what the program can't do yet.
     BadWords(WordsKind),
     /// A text wasn't there, or couldn't be read to its end.
     ReadFault,
@@ -71,17 +66,6 @@ pub enum Status {
     TooLong(Which),
     /// Memory ran out.
     NoMemory,
-}
-
-impl From<NoMemory> for Status {
-    ghost use Rattle.std.specs.Prelude.{◌≡◌};
-    ghost use Rattle.mb_cli.specs.declared.status.Status.TheVariants.{NoMemory as no_memory};
-
-    ghost from_gives = { λ _ status. status ≡ no_memory };
-
-    fn from(_: NoMemory) -> Status {
-        Status::NoMemory
-    }
 }
 
 impl Status {

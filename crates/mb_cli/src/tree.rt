@@ -1,17 +1,19 @@
 // The tree of a script.
-ghost use Rattle.std.specs.Prelude.{◌≡◌, ◌≤◌, [], Err, IfOk, OnOk, length};
+ghost use Rattle.std.specs.Prelude.{◌≡◌, ◌≤◌, ℕ, List, [], Err, IfOk, OnOk, length};
 ghost use Rattle.mb_tree.specs.Roses.{Rose, shapes, write};
 ghost use Rattle.mb_scope.specs.Names.{names_of};
 ghost use Rattle.mb_text.specs.Texts.{AreDistinct, KeepsIds};
 ghost use Rattle.mb_cli.specs.declared.status.ScriptKind.{ScriptKind as Kind};
-ghost use Rattle.mb_cli.specs.Trees.{longest_script, Reads, HasTree, ScriptFault};
+ghost use Rattle.mb_lexer.specs.Feeding.{Fed};
+ghost use Rattle.mb_cli.specs.Trees.{AreTokens, ReadsAs, HasTree, ScriptFault};
+ghost use Rattle.mb_cli.specs.machine.Scanned.{IsFed};
 
-use crate::script::FormFault;
 use crate::status::ScriptKind;
-use mb_lexer::{LexFault, lex};
+use mb_lexer::{LexFault, Lexer, lex};
 use mb_parse_stmt::{ParseFault, parse};
 use mb_scope::{NameFault, check};
 use mb_text::Texts;
+use mb_token::Spanned;
 use mb_tree::Program;
 use std::alloc::Global;
 
@@ -25,7 +27,7 @@ pub enum TreeFault {
 
 impl From<LexFault> for TreeFault {
     ghost use Rattle.std.specs.Prelude.{◌≡◌};
-    ghost use Rattle.mb_cli.specs.TreeFaults.{of_lexer};
+    ghost use Rattle.mb_cli.specs.machine.TreeFaults.{of_lexer};
 
     ghost from_gives = { λ before fault. fault ≡ of_lexer before };
 
@@ -41,7 +43,7 @@ impl From<LexFault> for TreeFault {
 
 impl From<ParseFault> for TreeFault {
     ghost use Rattle.std.specs.Prelude.{◌≡◌};
-    ghost use Rattle.mb_cli.specs.TreeFaults.{of_parser};
+    ghost use Rattle.mb_cli.specs.machine.TreeFaults.{of_parser};
 
     ghost from_gives = { λ before fault. fault ≡ of_parser before };
 
@@ -56,7 +58,7 @@ impl From<ParseFault> for TreeFault {
 
 impl From<NameFault> for TreeFault {
     ghost use Rattle.std.specs.Prelude.{◌≡◌};
-    ghost use Rattle.mb_cli.specs.TreeFaults.{of_rules};
+    ghost use Rattle.mb_cli.specs.machine.TreeFaults.{of_rules};
 
     ghost from_gives = { λ before fault. fault ≡ of_rules before };
 
@@ -70,43 +72,67 @@ impl From<NameFault> for TreeFault {
     }
 }
 
-impl From<FormFault> for TreeFault {
-    ghost use Rattle.std.specs.Prelude.{◌≡◌};
-    ghost use Rattle.mb_cli.specs.TreeFaults.{of_form};
-
-    ghost from_gives = { λ before fault. fault ≡ of_form before };
-
-    fn from(fault: FormFault) -> TreeFault {
-        match fault {
-            FormFault::Shape => TreeFault::Bad(ScriptKind::Shape),
-            FormFault::NoMemory => TreeFault::NoMemory,
-        }
-    }
+// The tree of these tokens, and what its scopes bind.
+fn program_of(alloc: Global, tokens: &[Spanned]) -> Result<Program, TreeFault>
+    requires { length tokens.now ≤ 1_048_576 }
+    ensures tree { (texts : List (List ℕ)) (bytes : List ℕ) → AreTokens texts bytes tokens.now
+        → IfOk result (λ program. (tree : Rose) × (shapes program.tree ≡ write [] tree) × ReadsAs texts bytes tree) }
+    ensures names { IfOk result (λ program. program.scopes.names.items ≡ names_of (shapes program.tree)) }
+    ensures fault { (texts : List (List ℕ)) (bytes : List ℕ) (kind : Kind) → AreTokens texts bytes tokens.now
+        → result ≡ Err (TreeFault.Bad kind) → ScriptFault bytes kind }
+{
+    let tree = parse(alloc, tokens)?;
+    let scopes = check(alloc, &tree)?;
+    Ok(Program { tree, scopes })
 }
 
 /// The tree of a script and what its scopes bind, or its fault. The texts of its names and string literals are put into
 /// `texts`; after a refusal `texts` may have more texts, and has those of before under their ids.
 pub fn read_tree(alloc: Global, bytes: &[u8], texts: &mut Texts) -> Result<Program, TreeFault>
-    requires { length bytes.now ≤ longest_script }
-    ensures tree { AreDistinct texts.old → IfOk result (λ program. (tree : Rose) × (shapes program.tree ≡ write [] tree) × Reads texts.new bytes.now tree) }
+    requires { length bytes.now ≤ 1_048_576 }
+    ensures tree { AreDistinct texts.old → IfOk result (λ program. (tree : Rose)
+        × (shapes program.tree ≡ write [] tree) × ReadsAs texts.new bytes.now tree) }
     ensures names { IfOk result (λ program. program.scopes.names.items ≡ names_of (shapes program.tree)) }
-    ensures fault { (kind : Kind) → AreDistinct texts.old → result ≡ Err (TreeFault.Bad kind) → ScriptFault bytes.now kind }
+    ensures fault { (kind : Kind) → AreDistinct texts.old
+        → result ≡ Err (TreeFault.Bad kind) → ScriptFault bytes.now kind }
     ensures ids { KeepsIds texts.old texts.new }
     ensures distinct { AreDistinct texts.old → AreDistinct texts.new }
 {
     let tokens = lex(alloc, bytes, texts)?;
-    let tree = parse(alloc, &tokens)?;
-    let scopes = check(alloc, &tree)?;
-    Ok(Program { tree, scopes })
+    program_of(alloc, &tokens)
+}
+
+// The tree of a script that was read in pieces.
+fn finish_tree(alloc: Global, lexer: Lexer, texts: &mut Texts) -> Result<Program, TreeFault>
+    requires fed { IsFed texts.old lexer }
+    requires distinct { AreDistinct texts.old }
+    ensures tree { (bytes : List ℕ) → Fed lexer texts.old bytes → OnOk result (HasTree bytes) }
+    ensures fault { (bytes : List ℕ) (kind : Kind) → Fed lexer texts.old bytes
+        → result ≡ Err (TreeFault.Bad kind) → ScriptFault bytes kind }
+{
+    let tokens = lexer.finish(texts)?;
+    program_of(alloc, &tokens)
 }
 
 // Whether a script has a tree.
 pub fn judge(alloc: Global, bytes: &[u8]) -> Result<(), TreeFault>
-    requires { length bytes.now ≤ longest_script }
+    requires { length bytes.now ≤ 1_048_576 }
     ensures tree { OnOk result (HasTree bytes.now) }
     ensures fault { (kind : Kind) → result ≡ Err (TreeFault.Bad kind) → ScriptFault bytes.now kind }
 {
     let mut texts = Texts::new(alloc);
     let _program = read_tree(alloc, bytes, &mut texts)?;
+    Ok(())
+}
+
+// Whether a script that was read in pieces has a tree.
+pub fn judge_lexed(alloc: Global, lexer: Lexer, texts: &mut Texts) -> Result<(), TreeFault>
+    requires fed { IsFed texts.old lexer }
+    requires distinct { AreDistinct texts.old }
+    ensures tree { (bytes : List ℕ) → Fed lexer texts.old bytes → OnOk result (HasTree bytes) }
+    ensures fault { (bytes : List ℕ) (kind : Kind) → Fed lexer texts.old bytes
+        → result ≡ Err (TreeFault.Bad kind) → ScriptFault bytes kind }
+{
+    let _program = finish_tree(alloc, lexer, texts)?;
     Ok(())
 }

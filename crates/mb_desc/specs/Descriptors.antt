@@ -1,5 +1,5 @@
 -- Property descriptors (ECMA-262, 6.2.6).
-use Rattle.std.specs.Prelude.{◌≡◌, Bool, true, false, not, ◌&&◌, ◌||◌, is_some, unwrap_or, if◌then◌else◌}
+use Rattle.std.specs.Prelude.{◌≡◌, Bool, true, false, not, ◌&&◌, ◌||◌, Option, None, Some, is_some, unwrap_or, if◌then◌else◌}
 use Rattle.mb_desc.specs.declared.descriptor.Desc.{Desc}
 use Rattle.mb_desc.specs.declared.descriptor.Full.{Full}
 use Rattle.mb_desc.specs.declared.descriptor.Full.TheVariants.{Datum, Accessor}
@@ -41,5 +41,34 @@ module _ {V : Type 0} where
   abbrev pub Complete : (undefined : V) → Desc V → Full V
   Complete undefined desc =
       if is_accessor_descriptor desc
-      then Accessor (unwrap_or desc.get undefined) (unwrap_or desc.set undefined) (unwrap_or desc.enumerable false) (unwrap_or desc.configurable false)
-      else Datum (unwrap_or desc.value undefined) (unwrap_or desc.writable false) (unwrap_or desc.enumerable false) (unwrap_or desc.configurable false)
+      then Accessor (unwrap_or desc.get undefined) (unwrap_or desc.set undefined)
+      (unwrap_or desc.enumerable false) (unwrap_or desc.configurable false)
+      else Datum (unwrap_or desc.value undefined) (unwrap_or desc.writable false)
+      (unwrap_or desc.enumerable false) (unwrap_or desc.configurable false)
+
+  -- the descriptor that says all of a property: both fields of its kind and both flags
+  abbrev pub descriptor_of : Full V → Desc V
+  descriptor_of (Datum value writable enumerable configurable) =
+      record {
+        value = Some value;
+        writable = Some writable;
+        get = None;
+        set = None;
+        enumerable = Some enumerable;
+        configurable = Some configurable;
+      }
+  descriptor_of (Accessor get set enumerable configurable) =
+      record {
+        value = None;
+        writable = None;
+        get = Some get;
+        set = Some set;
+        enumerable = Some enumerable;
+        configurable = Some configurable;
+      }
+
+  -- the same of a property that may be absent, of which there is nothing to say
+  abbrev pub fields_of : Option (Full V) → Desc V
+  fields_of None =
+      record { value = None; writable = None; get = None; set = None; enumerable = None; configurable = None }
+  fields_of (Some property) = descriptor_of property

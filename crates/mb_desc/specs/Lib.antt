@@ -2,3 +2,4 @@ pub mod Descriptors
 pub mod Validate
 pub mod Laws
 pub mod Values
+pub mod View

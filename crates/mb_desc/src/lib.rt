@@ -10,6 +10,9 @@ mod tests;
 mod validation;
 
 pub use descriptor::{Desc, Full};
-pub use laws::{absent_accepts, accepted_again, fixed_is_kept, no_fields_leave};
+pub use laws::{
+    absent_accepts, accepted_again, closed_refuses, configurable_accepts, fixed_is_kept,
+    given_is_there, no_fields_leave, not_given_stays,
+};
 pub use slot::Slot;
 pub use validation::{compatible, complete, validate};

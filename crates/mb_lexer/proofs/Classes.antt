@@ -10,7 +10,7 @@ use Rattle.mb_lexer.specs.declared.state.State.TheVariants.{Between, InName, InW
 use Rattle.mb_lexer.specs.declared.state.Inside.TheVariants.{Plain}
 use Rattle.mb_lexer.specs.declared.state.Move.TheVariants.{Goes, Adds}
 use Rattle.mb_lexer.specs.Characters.{is_blank, is_line_end, starts_name, is_quote}
-use Rattle.mb_lexer.specs.Machine.{begun}
+use Rattle.mb_lexer.specs.machine.Machine.{begun}
 
 -- one of the two, at a numeral
 pub or_elim : {P : Type 0} (a b : Bool) → (a ≡ true → P) → (b ≡ true → P) → (a || b) ≡ true → P

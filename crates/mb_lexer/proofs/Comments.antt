@@ -7,7 +7,7 @@ use Rattle.mb_lexer.specs.declared.state.State.TheVariants.{Between, InLineComme
 use Rattle.mb_lexer.specs.declared.state.Move.TheVariants.{Goes, Ends}
 use Rattle.mb_lexer.specs.Characters.{is_line_end, begins, width}
 use Rattle.mb_lexer.specs.Parts.{line_comment, block_comment, has_close}
-use Rattle.mb_lexer.specs.Machine.{fresh, run}
+use Rattle.mb_lexer.specs.machine.Machine.{idle, run}
 use Rattle.mb_lexer.proofs.Steps.{machine, Stops, run_ends, run_goes, between_same}
 use Rattle.mb_lexer.proofs.Parting.{or_if, or_false, or_assoc, width-append}
 use Rattle.mb_lexer.proofs.Open.{Told, IsOpen, IsRight, Commented, ends_in_star, goes_on, told_same}
@@ -19,7 +19,7 @@ list_any-append p (x ∷ xs) ys = ap (λ b. p x || b) (list_any-append p xs ys) 
 
 -- a line comment at its end
 pub line_ends : (from to : ℕ) (line : Bool) (us : List ℕ) (before : Bool) (seen rest : List ℕ) → IsOpen (machine InLineComment from to line us) before seen → Stops (machine InLineComment from to line us) rest
-    → Told to line rest (run (fresh to line) rest) → Told from before (seen ++ rest) (run (machine InLineComment from to line us) rest)
+    → Told to line rest (run (idle to line) rest) → Told from before (seen ++ rest) (run (machine InLineComment from to line us) rest)
 line_ends from to line us before seen rest o s g =
     part_ends (machine InLineComment from to line us) before seen rest (line_comment o.means.0) o o.means.1
     (and_from _ _ (not_from_false _ o.means.2) (stop rest s)) (o.means.3 ∙ sym (or_false before)) (run_ends (machine InLineComment from to line us) [] rest refl s) g
@@ -29,7 +29,7 @@ line_ends from to line us before seen rest o s g =
     stop (c ∷ cs) s = elim (is_line_end c) as (λ b. cond b Ends (Goes InLineComment) ≡ Ends → not (not b) ≡ true) [ true ↦ λ _. refl | false ↦ λ e. cc ] s
 
 -- a line comment before a character
-pub line_step : (c : ℕ) (cs : List ℕ) (from to : ℕ) (line : Bool) (us : List ℕ) (before : Bool) (seen : List ℕ) → IsRight cs → ((at : ℕ) (line : Bool) → Told at line (c ∷ cs) (run (fresh at line) (c ∷ cs)))
+pub line_step : (c : ℕ) (cs : List ℕ) (from to : ℕ) (line : Bool) (us : List ℕ) (before : Bool) (seen : List ℕ) → IsRight cs → ((at : ℕ) (line : Bool) → Told at line (c ∷ cs) (run (idle at line) (c ∷ cs)))
     → IsOpen (machine InLineComment from to line us) before seen → Told from before (seen ++ c ∷ cs) (run (machine InLineComment from to line us) (c ∷ cs))
 line_step c cs from to line us before seen right again o =
     ⊎_elim
@@ -84,4 +84,4 @@ block_step c cs star from to line us before seen right o =
             let u : (has_close r.0 ≡ false) × ((ends_in_star r.0 && false) ≡ false) = or_parts _ _ (sym (close_last r.0 42) ∙ ap has_close (sym r.1) ∙ t.unclosed) in
             let l : line ≡ (before || list_any is_line_end r.0) = t.line_is ∙ ap (λ xs. before || list_any is_line_end xs) r.1 ∙ ap (λ b. before || b) (list_any-append is_line_end r.0 (42 ∷ []) ∙ or_false _) in
             told_same from before _ _ _ _ (append_assoc seen (47 ∷ []) cs) (sym (run_goes (machine (InBlockComment star) from to line us) 47 Between cs (rw e refl) ∙ between_same from (to + 1) line us cs))
-            (part_done from (to + 1) before line (seen ++ 47 ∷ []) cs (block_comment r.0) (run (fresh (to + 1) line) cs) (let w : to ≡ from + width seen = o.place in rw (width-append seen (47 ∷ [])) (omega arith)) whole (not_from_false _ u.0) l (right.between (to + 1) line))
+            (part_done from (to + 1) before line (seen ++ 47 ∷ []) cs (block_comment r.0) (run (idle (to + 1) line) cs) (let w : to ≡ from + width seen = o.place in rw (width-append seen (47 ∷ [])) (omega arith)) whole (not_from_false _ u.0) l (right.between (to + 1) line))

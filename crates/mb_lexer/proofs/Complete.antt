@@ -5,11 +5,11 @@ use Rattle.std.proofs.lemmas.Str.{len_utf8_bounds}
 use Rattle.mb_lexer.specs.declared.state.Move.{Move}
 use Rattle.mb_lexer.specs.declared.state.Move.TheVariants.{Goes, Adds, Splits, Ends, Fails}
 use Rattle.mb_lexer.specs.Characters.{width}
-use Rattle.mb_lexer.specs.Parts.{Part, space, line_comment, block_comment, spelled, is_part, has_line}
+use Rattle.mb_lexer.specs.Parts.{Part, space, line_comment, block_comment, part_text, is_part, has_line}
 use Rattle.mb_token.specs.Marks.{mark_text, mark_at}
 use Rattle.mb_lexer.specs.Tokens.{Content, name, soft, reserved, whole, text, mark, IsToken, begins_comment}
 use Rattle.mb_lexer.specs.Reading.{Lexeme, Kind, Stop, end, fault, IsFaulty, kind_of}
-use Rattle.mb_lexer.specs.Machine.{Machine, Answer, fresh, lexeme, ended, stopped, after_tokens, continued, step_by, begun_after, moved, move_of, begun, lasting, first_of_two, run}
+use Rattle.mb_lexer.specs.machine.Machine.{Machine, Answer, idle, lexeme, ended, stopped, after_tokens, continued, step_by, begun_after, moved, move_of, begun, lasting, first_of_two, run}
 use Rattle.mb_lexer.proofs.Parting.{part_run}
 use Rattle.mb_lexer.proofs.Words.{name_run, whole_run}
 use Rattle.mb_lexer.proofs.Quoted.{text_run}
@@ -17,10 +17,10 @@ use Rattle.mb_lexer.proofs.Signs.{mark_run}
 
 -- the token, and what comes after it
 abbrev pub Given : Content → List ℕ → List ℕ → ℕ → Bool → Type 0
-Given t token rest at line = run (fresh at line) (token ++ rest) ≡ after_tokens (lexeme t at (at + width token) line ∷ []) (run (fresh (at + width token) false) rest)
+Given t token rest at line = run (idle at line) (token ++ rest) ≡ after_tokens (lexeme t at (at + width token) line ∷ []) (run (idle (at + width token) false) rest)
 
 as_named : (s t : Content) (token rest : List ℕ) (at : ℕ) (line : Bool) → s ≡ t → Given s token rest at line → Given t token rest at line
-as_named s t token rest at line e h = h ∙ ap (λ k. after_tokens (lexeme k at (at + width token) line ∷ []) (run (fresh (at + width token) false) rest)) e
+as_named s t token rest at line e h = h ∙ ap (λ k. after_tokens (lexeme k at (at + width token) line ∷ []) (run (idle (at + width token) false) rest)) e
 
 pub token_run : (t : Content) (token rest : List ℕ) (at : ℕ) (line : Bool) → IsToken t token rest → Given t token rest at line
 token_run (name us) token rest at line h = as_named _ _ token rest at line h.1 (name_run us token rest at line h.0)
@@ -53,7 +53,7 @@ late_moved at m c Ends ts more a h f = a
 late_moved at m c Fails ts more a h f = a
 
 late_begun : (m : Machine) (c : ℕ) (r : Result (List Lexeme) Kind) (more : Machine → Answer) → m.from ≤ m.to → ((n : Machine) → n.from ≤ n.to → Late n.from (more n).stop) → Late m.from (continued (begun_after m c r).tokens (begun_after m c r).next more).stop
-late_begun m c (Ok ts) more h f = late_moved m.from (fresh m.to (lasting ts m.line)) c (begun c) ts more h (omega arith) f
+late_begun m c (Ok ts) more h f = late_moved m.from (idle m.to (lasting ts m.line)) c (begun c) ts more h (omega arith) f
 late_begun m c (Err kind) more h f = let l : m.from ≤ m.from = omega arith in l
 
 late_step : (m : Machine) (c : ℕ) (mv : Move) (more : Machine → Answer) → m.from ≤ m.to → ((n : Machine) → n.from ≤ n.to → Late n.from (more n).stop) → Late m.from (continued (step_by m c mv).tokens (step_by m c mv).next more).stop
@@ -67,13 +67,13 @@ pub late : (cs : List ℕ) (m : Machine) → m.from ≤ m.to → Late m.from (ru
 late [] m h = late_stopped m (ended m.state m)
 late (c ∷ cs) m h = late_step m c (move_of m.state c) (λ n. run n cs) h (λ n g. late cs n g)
 
-part_wide : (p : Part) → 1 ≤ width (spelled p)
+part_wide : (p : Part) → 1 ≤ width (part_text p)
 part_wide (space c) = let b : (1 ≤ len_utf8 c) × (len_utf8 c ≤ 4) = len_utf8_bounds c in omega arith
 part_wide (line_comment cs) = omega arith
 part_wide (block_comment cs) = omega arith
 
 -- Where the machine finds a fault at once, nothing stands.
-pub faulty : (kind : Kind) (first : ℕ) (more : List ℕ) (at : ℕ) (line : Bool) → run (fresh at line) (first ∷ more) ≡ record { tokens = []; stop = fault kind at } → kind ≡ kind_of first → IsFaulty kind (first ∷ more)
+pub faulty : (kind : Kind) (first : ℕ) (more : List ℕ) (at : ℕ) (line : Bool) → run (idle at line) (first ∷ more) ≡ record { tokens = []; stop = fault kind at } → kind ≡ kind_of first → IsFaulty kind (first ∷ more)
 faulty kind first more at line h k = record {
   first = first;
   more = more;
@@ -83,17 +83,17 @@ faulty kind first more at line h k = record {
   kind_is = k;
 }
   where
-    no_part : (p : Part) (rest : List ℕ) → first ∷ more ≡ spelled p ++ rest → is_part p rest ≡ true → ⊥
+    no_part : (p : Part) (rest : List ℕ) → first ∷ more ≡ part_text p ++ rest → is_part p rest ≡ true → ⊥
     no_part p rest e g =
-        let r : run (fresh (at + width (spelled p)) (line || has_line p)) rest ≡ record { tokens = []; stop = fault kind at } = sym (part_run p rest at line g) ∙ ap (λ xs. run (fresh at line) xs) (sym e) ∙ h in
-        let l : Late (at + width (spelled p)) (run (fresh (at + width (spelled p)) (line || has_line p)) rest).stop = late rest (fresh (at + width (spelled p)) (line || has_line p)) (omega arith) in
-        let l2 : at + width (spelled p) ≤ at = subst (λ a. Late (at + width (spelled p)) a.stop) r l in
-        let w : 1 ≤ width (spelled p) = part_wide p in
+        let r : run (idle (at + width (part_text p)) (line || has_line p)) rest ≡ record { tokens = []; stop = fault kind at } = sym (part_run p rest at line g) ∙ ap (λ xs. run (idle at line) xs) (sym e) ∙ h in
+        let l : Late (at + width (part_text p)) (run (idle (at + width (part_text p)) (line || has_line p)) rest).stop = late rest (idle (at + width (part_text p)) (line || has_line p)) (omega arith) in
+        let l2 : at + width (part_text p) ≤ at = subst (λ a. Late (at + width (part_text p)) a.stop) r l in
+        let w : 1 ≤ width (part_text p) = part_wide p in
         omega arith
 
     no_token : (t : Content) (token rest : List ℕ) → first ∷ more ≡ token ++ rest → IsToken t token rest → ⊥
     no_token t token rest e g =
-        let a : Answer = run (fresh (at + width token) false) rest in
-        let r : after_tokens (lexeme t at (at + width token) line ∷ []) a ≡ record { tokens = []; stop = fault kind at } = sym (token_run t token rest at line g) ∙ ap (λ xs. run (fresh at line) xs) (sym e) ∙ h in
+        let a : Answer = run (idle (at + width token) false) rest in
+        let r : after_tokens (lexeme t at (at + width token) line ∷ []) a ≡ record { tokens = []; stop = fault kind at } = sym (token_run t token rest at line g) ∙ ap (λ xs. run (idle at line) xs) (sym e) ∙ h in
         let x : lexeme t at (at + width token) line ∷ a.tokens ≡ [] = ap (λ b. b.tokens) r in
         cc

@@ -5,10 +5,10 @@ use Rattle.std.specs.Prelude.{if◌then◌else◌}
 use Rattle.std.specs.Char.{is_digit}
 use Rattle.std.proofs.lemmas.Bool.{and_parts}
 use Rattle.mb_lexer.specs.Characters.{width}
-use Rattle.mb_lexer.specs.Parts.{Part, spelled, is_part, are_parts, has_line}
+use Rattle.mb_lexer.specs.Parts.{Part, part_text, is_part, are_parts, has_line}
 use Rattle.mb_lexer.specs.Tokens.{IsToken}
 use Rattle.mb_lexer.specs.Reading.{Lexeme, Kind, other, number, Stop, end, fault, Parted, Reads, IsFaulty}
-use Rattle.mb_lexer.specs.Machine.{Answer, fresh, lexeme, after_tokens, run}
+use Rattle.mb_lexer.specs.machine.Machine.{Answer, idle, lexeme, after_tokens, run}
 use Rattle.mb_lexer.proofs.Parting.{parts_run}
 use Rattle.mb_lexer.proofs.Complete.{token_run}
 use Rattle.mb_lexer.proofs.Sound.{sound}
@@ -19,8 +19,8 @@ answer ts stop = record { tokens = ts; stop = stop }
 -- a part stands in front
 front_part : (kind : Kind) (cs : List ℕ) (p : Part) (ps : List Part) (rest : List ℕ) → IsFaulty kind cs → Parted cs (p ∷ ps) rest → ⊥
 front_part kind cs p ps rest f g =
-    let h : (is_part p (flat_map spelled ps ++ rest) ≡ true) × (are_parts ps rest ≡ true) = and_parts _ _ g.each in
-    f.no_part p (flat_map spelled ps ++ rest) (g.whole ∙ append_assoc (spelled p) (flat_map spelled ps) rest) h.0
+    let h : (is_part p (flat_map part_text ps ++ rest) ≡ true) × (are_parts ps rest ≡ true) = and_parts _ _ g.each in
+    f.no_part p (flat_map part_text ps ++ rest) (g.whole ∙ append_assoc (part_text p) (flat_map part_text ps) rest) h.0
 
 -- where nothing stands, there is one answer
 one_fault : (kind : Kind) (cs : List ℕ) (at : ℕ) (line : Bool) (ts : List Lexeme) (stop : Stop) → IsFaulty kind cs → Reads at line cs ts stop → answer ts stop ≡ answer [] (fault kind at)
@@ -34,7 +34,7 @@ one_fault kind cs at line [] end f g = nothing g.0 g.1
     nothing (p ∷ ps) h = absurd (front_part kind cs p ps [] f h)
 one_fault kind cs at line [] (fault k place) f g = same g.0 g.1 g.2 g.3 g.4
   where
-    same : (ps : List Part) (rest : List ℕ) → Parted cs ps rest → place ≡ at + width (flat_map spelled ps) → IsFaulty k rest → answer [] (fault k place) ≡ answer [] (fault kind at)
+    same : (ps : List Part) (rest : List ℕ) → Parted cs ps rest → place ≡ at + width (flat_map part_text ps) → IsFaulty k rest → answer [] (fault k place) ≡ answer [] (fault kind at)
     same [] rest h e x =
         let heads : x.first ∷ x.more ≡ f.first ∷ f.more = sym x.left ∙ sym h.whole ∙ f.left in
         let first : x.first ≡ f.first = cc in
@@ -48,26 +48,26 @@ one_fault kind cs at line (t ∷ ts) stop f g = none g.0 g.1 g.2 g.3 g.4
     none [] token rest h x = absurd (f.no_token t.content token rest h.whole x)
     none (p ∷ ps) token rest h x = absurd (front_part kind cs p ps (token ++ rest) f h)
 
-fault_run : (kind : Kind) (cs : List ℕ) (at : ℕ) (line : Bool) → IsFaulty kind cs → run (fresh at line) cs ≡ answer [] (fault kind at)
-fault_run kind cs at line f = one_fault kind cs at line (run (fresh at line) cs).tokens (run (fresh at line) cs).stop f ((sound cs).between at line)
+fault_run : (kind : Kind) (cs : List ℕ) (at : ℕ) (line : Bool) → IsFaulty kind cs → run (idle at line) cs ≡ answer [] (fault kind at)
+fault_run kind cs at line f = one_fault kind cs at line (run (idle at line) cs).tokens (run (idle at line) cs).stop f ((sound cs).between at line)
 
-parted_run : (cs : List ℕ) (ps : List Part) (rest : List ℕ) (at : ℕ) (line : Bool) → Parted cs ps rest → run (fresh at line) cs ≡ run (fresh (at + width (flat_map spelled ps)) (line || list_any has_line ps)) rest
-parted_run cs ps rest at line h = ap (λ xs. run (fresh at line) xs) h.whole ∙ parts_run ps rest at line h.each
+parted_run : (cs : List ℕ) (ps : List Part) (rest : List ℕ) (at : ℕ) (line : Bool) → Parted cs ps rest → run (idle at line) cs ≡ run (idle (at + width (flat_map part_text ps)) (line || list_any has_line ps)) rest
+parted_run cs ps rest at line h = ap (λ xs. run (idle at line) xs) h.whole ∙ parts_run ps rest at line h.each
 
 -- what the definition gives is the machine's answer
-pub complete : (ts : List Lexeme) (cs : List ℕ) (at : ℕ) (line : Bool) (stop : Stop) → Reads at line cs ts stop → run (fresh at line) cs ≡ answer ts stop
+pub complete : (ts : List Lexeme) (cs : List ℕ) (at : ℕ) (line : Bool) (stop : Stop) → Reads at line cs ts stop → run (idle at line) cs ≡ answer ts stop
 complete [] cs at line end g = parted_run cs g.0 [] at line g.1
 complete [] cs at line (fault kind place) g =
     parted_run cs g.0 g.1 at line g.2
-    ∙ fault_run kind g.1 (at + width (flat_map spelled g.0)) (line || list_any has_line g.0) g.4
+    ∙ fault_run kind g.1 (at + width (flat_map part_text g.0)) (line || list_any has_line g.0) g.4
     ∙ ap (λ n. answer [] (fault kind n)) (sym g.3)
 complete (t ∷ ts) cs at line stop g =
-    let n : ℕ = at + width (flat_map spelled g.0) in
+    let n : ℕ = at + width (flat_map part_text g.0) in
     let l : Bool = line || list_any has_line g.0 in
     let to : t.to ≡ n + width g.1 = g.6 ∙ ap (λ k. k + width g.1) g.5 in
     parted_run cs g.0 (g.1 ++ g.2) at line g.3
     ∙ token_run t.content g.1 g.2 n l g.4
-    ∙ (λ i. after_tokens (lexeme t.content (sym g.5 i) (sym to i) (sym g.7 i) ∷ []) (run (fresh (sym to i) false) g.2))
+    ∙ (λ i. after_tokens (lexeme t.content (sym g.5 i) (sym to i) (sym g.7 i) ∷ []) (run (idle (sym to i) false) g.2))
     ∙ ap (λ a. after_tokens (t ∷ []) a) (complete ts g.2 t.to false stop g.8)
 
 -- two readings of one text are one

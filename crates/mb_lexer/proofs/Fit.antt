@@ -15,9 +15,9 @@ use Rattle.mb_lexer.specs.declared.state.Move.{Move}
 use Rattle.mb_lexer.specs.declared.state.Move.TheVariants.{Goes, Adds, Splits, Ends, Fails}
 use Rattle.mb_lexer.specs.Characters.{is_blank, is_line_end, starts_name, continues_name, is_quote}
 use Rattle.mb_lexer.specs.Strings.{is_hex, stands_for}
-use Rattle.mb_lexer.specs.Machine.{Machine, fresh, lasting, moved, step, step_by, begun_after, ended, move_of, begun, opening_of, goes_or_fails, whole_move, plain_move, escape_move, hex_move, code_move, inside_move, mark_move}
+use Rattle.mb_lexer.specs.machine.Machine.{Machine, idle, lasting, moved, step, step_by, begun_after, ended, move_of, begun, opening_of, goes_or_fails, whole_move, plain_move, escape_move, hex_move, code_move, inside_move, mark_move}
 use Rattle.mb_lexer.specs.Reading.{Lexeme, Kind, Stop}
-use Rattle.mb_lexer.specs.Answers.{slack, InRange, IsFit, AddsCode}
+use Rattle.mb_lexer.specs.machine.Outcomes.{slack, InRange, IsFit, AddsCode}
 
 wide : (c : ℕ) → 1 ≤ len_utf8 c
 wide c = let b : (1 ≤ len_utf8 c) × (len_utf8 c ≤ 4) = len_utf8_bounds c in b.0
@@ -212,11 +212,11 @@ moved_fits m n c (Splits first) h f e = subst IsFit (ok_same _ _ e) (record { ra
 moved_fits m n c Ends h f e = absurd cc
 moved_fits m n c Fails h f e = absurd cc
 
-pub fresh_fits : (at : ℕ) (line : Bool) → IsFit (fresh at line)
+pub fresh_fits : (at : ℕ) (line : Bool) → IsFit (idle at line)
 fresh_fits at line = record { range = tt; room = omega arith }
 
 begun_after_fits : (m n : Machine) (c : ℕ) (r : Result (List Lexeme) Kind) → c ≤ 0x10ffff → (begun_after m c r).next ≡ Ok n → IsFit n
-begun_after_fits m n c (Ok ts) v e = moved_fits (fresh m.to (lasting ts m.line)) n c (begun c) (begun_fits c v) (fresh_fits m.to (lasting ts m.line)) e
+begun_after_fits m n c (Ok ts) v e = moved_fits (idle m.to (lasting ts m.line)) n c (begun c) (begun_fits c v) (fresh_fits m.to (lasting ts m.line)) e
 begun_after_fits m n c (Err kind) v e = absurd cc
 
 step_by_fits : (m n : Machine) (c : ℕ) (mv : Move) → c ≤ 0x10ffff → MoveFits m.state c mv → IsFit m → (step_by m c mv).next ≡ Ok n → IsFit n

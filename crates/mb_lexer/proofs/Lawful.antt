@@ -15,8 +15,8 @@ use Rattle.mb_lexer.specs.declared.fault.LexFault.TheVariants.{Utf8, Token, Numb
 use Rattle.mb_lexer.specs.Characters.{width}
 use Rattle.mb_lexer.specs.Tokens.{Content, IsToken}
 use Rattle.mb_lexer.specs.Reading.{Lexeme, other, number, Stop, end, fault, Reads, HasTokens}
-use Rattle.mb_lexer.specs.Machine.{Answer, fresh, run, lexeme, after_tokens}
-use Rattle.mb_lexer.specs.Answers.{HasFault}
+use Rattle.mb_lexer.specs.machine.Machine.{Answer, idle, run, lexeme, after_tokens}
+use Rattle.mb_lexer.specs.Reading.{HasFault}
 use Rattle.mb_lexer.proofs.Complete.{token_run}
 use Rattle.mb_lexer.proofs.Sound.{sound}
 use Rattle.mb_lexer.proofs.Exact.{one_reading}
@@ -86,9 +86,9 @@ same_front (c ∷ cs) (d ∷ ds) xs ys e w =
 
 pub one_token : (s t : Content) (cs ds xs ys : List ℕ) → cs ++ xs ≡ ds ++ ys → IsToken s cs xs → IsToken t ds ys → (s ≡ t) × (cs ≡ ds)
 one_token s t cs ds xs ys e g h =
-    let a : Answer = run (fresh (0 + width cs) false) xs in
-    let b : Answer = run (fresh (0 + width ds) false) ys in
-    let r : after_tokens (lexeme s 0 (0 + width cs) false ∷ []) a ≡ after_tokens (lexeme t 0 (0 + width ds) false ∷ []) b = sym (token_run s cs xs 0 false g) ∙ ap (λ zs. run (fresh 0 false) zs) e ∙ token_run t ds ys 0 false h in
+    let a : Answer = run (idle (0 + width cs) false) xs in
+    let b : Answer = run (idle (0 + width ds) false) ys in
+    let r : after_tokens (lexeme s 0 (0 + width cs) false ∷ []) a ≡ after_tokens (lexeme t 0 (0 + width ds) false ∷ []) b = sym (token_run s cs xs 0 false g) ∙ ap (λ zs. run (idle 0 false) zs) e ∙ token_run t ds ys 0 false h in
     let l : lexeme s 0 (0 + width cs) false ∷ a.tokens ≡ lexeme t 0 (0 + width ds) false ∷ b.tokens = ap (λ z. z.tokens) r in
     let f : lexeme s 0 (0 + width cs) false ≡ lexeme t 0 (0 + width ds) false = cc in
     let w : 0 + width cs ≡ 0 + width ds = ap (λ z. z.to) f in

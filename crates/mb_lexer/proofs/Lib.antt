@@ -22,3 +22,7 @@ pub mod Deciding
 pub mod Tiling
 pub mod Lawful
 pub mod Rows
+pub mod Lexed
+pub mod Cuts
+pub mod Fed
+pub mod Finished

@@ -11,11 +11,11 @@ use Rattle.mb_lexer.specs.declared.state.Inside.{Inside}
 use Rattle.mb_lexer.specs.declared.state.Inside.TheVariants.{Plain, Nul, Escape, Unicode, Digits, Open, Code}
 use Rattle.mb_lexer.specs.declared.state.Move.TheVariants.{Goes, Adds}
 use Rattle.mb_lexer.specs.Characters.{is_line_end, is_quote, begins, width}
-use Rattle.mb_lexer.specs.Strings.{Piece, spelled, units, number, is_hex, are_pieces}
+use Rattle.mb_lexer.specs.Strings.{Piece, piece_text, units, number_of, is_hex, are_pieces}
 use Rattle.mb_lexer.specs.Parts.{has_close}
 use Rattle.mb_lexer.specs.Tokens.{units_of, is_name, is_whole, IsText}
 use Rattle.mb_lexer.specs.Reading.{Reads}
-use Rattle.mb_lexer.specs.Machine.{Machine, Answer, fresh, grown, is_parting, move_of, begun, run}
+use Rattle.mb_lexer.specs.machine.Machine.{Machine, Answer, idle, grown, is_parting, move_of, begun, run}
 use Rattle.mb_lexer.proofs.Steps.{run_goes, run_adds, begin_goes, begin_adds}
 use Rattle.mb_lexer.proofs.Parting.{width-append}
 
@@ -36,19 +36,19 @@ Front Escape xs = xs ≡ 92 ∷ []
 Front Unicode xs = xs ≡ 92 ∷ 117 ∷ []
 Front (Digits left value) xs =
     ((xs ≡ 92 ∷ 120 ∷ []) × (left ≡ 2) × (value ≡ 0))
-    ⊎ (((a : ℕ) × (xs ≡ 92 ∷ 120 ∷ a ∷ []) × (is_hex a ≡ true) × (left ≡ 1) × (value ≡ number 16 (a ∷ [])))
-    ⊎ (((a : ℕ) × (xs ≡ 92 ∷ 117 ∷ a ∷ []) × (is_hex a ≡ true) × (left ≡ 3) × (value ≡ number 16 (a ∷ [])))
-    ⊎ (((a : ℕ) × (b : ℕ) × (xs ≡ 92 ∷ 117 ∷ a ∷ b ∷ []) × (is_hex a ≡ true) × (is_hex b ≡ true) × (left ≡ 2) × (value ≡ number 16 (a ∷ b ∷ [])))
-    ⊎ ((a : ℕ) × (b : ℕ) × (c : ℕ) × (xs ≡ 92 ∷ 117 ∷ a ∷ b ∷ c ∷ []) × (is_hex a ≡ true) × (is_hex b ≡ true) × (is_hex c ≡ true) × (left ≡ 1) × (value ≡ number 16 (a ∷ b ∷ c ∷ []))))))
+    ⊎ (((a : ℕ) × (xs ≡ 92 ∷ 120 ∷ a ∷ []) × (is_hex a ≡ true) × (left ≡ 1) × (value ≡ number_of 16 (a ∷ [])))
+    ⊎ (((a : ℕ) × (xs ≡ 92 ∷ 117 ∷ a ∷ []) × (is_hex a ≡ true) × (left ≡ 3) × (value ≡ number_of 16 (a ∷ [])))
+    ⊎ (((a : ℕ) × (b : ℕ) × (xs ≡ 92 ∷ 117 ∷ a ∷ b ∷ []) × (is_hex a ≡ true) × (is_hex b ≡ true) × (left ≡ 2) × (value ≡ number_of 16 (a ∷ b ∷ [])))
+    ⊎ ((a : ℕ) × (b : ℕ) × (c : ℕ) × (xs ≡ 92 ∷ 117 ∷ a ∷ b ∷ c ∷ []) × (is_hex a ≡ true) × (is_hex b ≡ true) × (is_hex c ≡ true) × (left ≡ 1) × (value ≡ number_of 16 (a ∷ b ∷ c ∷ []))))))
 Front Open xs = xs ≡ 92 ∷ 117 ∷ 123 ∷ []
-Front (Code value) xs = (ds : List ℕ) × (xs ≡ 92 ∷ 117 ∷ 123 ∷ ds) × (not (length ds == 0) ≡ true) × (list_all is_hex ds ≡ true) × (value ≡ number 16 ds) × (value ≤ 0x10ffff)
+Front (Code value) xs = (ds : List ℕ) × (xs ≡ 92 ∷ 117 ∷ 123 ∷ ds) × (not (length ds == 0) ≡ true) × (list_all is_hex ds ≡ true) × (value ≡ number_of 16 ds) × (value ≤ 0x10ffff)
 
 -- a text that is open: a quote, pieces, and the front of another
 pub record Quoting (q : ℕ) (i : Inside) (us seen : List ℕ) : Type 0 where
   pub quoted : is_quote q ≡ true
   pub pieces : List Piece
   pub front : List ℕ
-  pub seen_is : seen ≡ q ∷ (flat_map spelled pieces ++ front)
+  pub seen_is : seen ≡ q ∷ (flat_map piece_text pieces ++ front)
   pub units_are : us ≡ flat_map units pieces
   pub fits : (rest : List ℕ) → Follows i rest → are_pieces q pieces (front ++ rest) ≡ true
   pub front_is : Front i front
@@ -71,7 +71,7 @@ pub record Commented (star : Bool) (before now : Bool) (seen : List ℕ) : Type 
 abbrev pub Means : State → Bool → Bool → List ℕ → List ℕ → Type 0
 Means Between before now us seen = ⊥
 Means InName before now us seen = (us ≡ units_of seen) × (is_name seen ≡ true) × (now ≡ before)
-Means (InWhole n) before now us seen = (is_whole seen ≡ true) × (n ≡ number 10 seen) × (now ≡ before)
+Means (InWhole n) before now us seen = (is_whole seen ≡ true) × (n ≡ number_of 10 seen) × (now ≡ before)
 Means (InText q i) before now us seen = Quoting q i us seen × (now ≡ before)
 Means AfterText before now us seen = IsText us seen × (now ≡ before)
 Means InLineComment before now us seen = (body : List ℕ) × (seen ≡ 47 ∷ 47 ∷ body) × (list_any is_line_end body ≡ false) × (now ≡ before)
@@ -86,11 +86,11 @@ Means NotEqual before now us seen = (seen ≡ 33 ∷ 61 ∷ []) × (now ≡ befo
 pub record IsOpen (m : Machine) (before : Bool) (seen : List ℕ) : Type 0 where
   pub place : m.to ≡ m.from + width seen
   pub means : Means m.state before m.line m.units seen
-  pub reached : (rest : List ℕ) → run (fresh m.from before) (seen ++ rest) ≡ run m rest
+  pub reached : (rest : List ℕ) → run (idle m.from before) (seen ++ rest) ≡ run m rest
 
 -- The machine is right about these characters, whatever came before.
 pub record IsRight (cs : List ℕ) : Type 0 where
-  pub between : (at : ℕ) (line : Bool) → Told at line cs (run (fresh at line) cs)
+  pub between : (at : ℕ) (line : Bool) → Told at line cs (run (idle at line) cs)
   pub opened : (m : Machine) (before : Bool) (seen : List ℕ) → IsOpen m before seen → Told m.from before (seen ++ cs) (run m cs)
 
 pub told_same : (at : ℕ) (line : Bool) (cs ds : List ℕ) (a b : Answer) → cs ≡ ds → a ≡ b → Told at line cs a → Told at line ds b
@@ -107,7 +107,7 @@ goes_on m before seen c s cs right o h means =
     (right.opened (grown m c s m.units) before (seen ++ c ∷ []) (record {
       place = push_place m.from m.to c seen o.place;
       means = means;
-      reached = λ rest. ap (λ xs. run (fresh m.from before) xs) (append_assoc seen (c ∷ []) rest) ∙ o.reached (c ∷ rest) ∙ run_goes m c s rest h;
+      reached = λ rest. ap (λ xs. run (idle m.from before) xs) (append_assoc seen (c ∷ []) rest) ∙ o.reached (c ∷ rest) ∙ run_goes m c s rest h;
     }))
 
 -- the same with units
@@ -118,23 +118,23 @@ adds_on m before seen c code s cs right o h means =
     (right.opened (grown m c s (m.units ++ encode_utf16 code)) before (seen ++ c ∷ []) (record {
       place = push_place m.from m.to c seen o.place;
       means = means;
-      reached = λ rest. ap (λ xs. run (fresh m.from before) xs) (append_assoc seen (c ∷ []) rest) ∙ o.reached (c ∷ rest) ∙ run_adds m c code s rest h;
+      reached = λ rest. ap (λ xs. run (idle m.from before) xs) (append_assoc seen (c ∷ []) rest) ∙ o.reached (c ∷ rest) ∙ run_adds m c code s rest h;
     }))
 
 -- a character begins a token
-pub begins_with : (at : ℕ) (line : Bool) (c : ℕ) (s : State) (cs : List ℕ) → IsRight cs → begun c ≡ Goes s → is_parting s ≡ false → Means s line (grown (fresh at line) c s []).line [] (c ∷ []) → Told at line (c ∷ cs) (run (fresh at line) (c ∷ cs))
+pub begins_with : (at : ℕ) (line : Bool) (c : ℕ) (s : State) (cs : List ℕ) → IsRight cs → begun c ≡ Goes s → is_parting s ≡ false → Means s line (grown (idle at line) c s []).line [] (c ∷ []) → Told at line (c ∷ cs) (run (idle at line) (c ∷ cs))
 begins_with at line c s cs right h p means =
     told_same at line _ _ _ _ refl (sym (begin_goes at line c s cs h))
-    (right.opened (grown (fresh at line) c s []) line (c ∷ []) (record {
+    (right.opened (grown (idle at line) c s []) line (c ∷ []) (record {
       place = let e : at + len_utf8 c ≡ at + (len_utf8 c + 0) = omega arith in e;
       means = means;
       reached = λ rest. begin_goes at line c s rest h;
     }))
 
-pub begins_adding : (at : ℕ) (line : Bool) (c code : ℕ) (s : State) (cs : List ℕ) → IsRight cs → begun c ≡ Adds s code → Means s line (grown (fresh at line) c s (encode_utf16 code)).line (encode_utf16 code) (c ∷ []) → Told at line (c ∷ cs) (run (fresh at line) (c ∷ cs))
+pub begins_adding : (at : ℕ) (line : Bool) (c code : ℕ) (s : State) (cs : List ℕ) → IsRight cs → begun c ≡ Adds s code → Means s line (grown (idle at line) c s (encode_utf16 code)).line (encode_utf16 code) (c ∷ []) → Told at line (c ∷ cs) (run (idle at line) (c ∷ cs))
 begins_adding at line c code s cs right h means =
     told_same at line _ _ _ _ refl (sym (begin_adds at line c code s cs h))
-    (right.opened (grown (fresh at line) c s (encode_utf16 code)) line (c ∷ []) (record {
+    (right.opened (grown (idle at line) c s (encode_utf16 code)) line (c ∷ []) (record {
       place = let e : at + len_utf8 c ≡ at + (len_utf8 c + 0) = omega arith in e;
       means = means;
       reached = λ rest. begin_adds at line c code s rest h;

@@ -12,7 +12,7 @@ use Rattle.mb_lexer.specs.declared.state.Move.TheVariants.{Goes, Splits, Ends}
 use Rattle.mb_lexer.specs.Characters.{width, begins}
 use Rattle.mb_lexer.specs.Tokens.{mark, begins_comment, IsToken}
 use Rattle.mb_lexer.specs.Reading.{Lexeme, Stop, Reads}
-use Rattle.mb_lexer.specs.Machine.{Machine, fresh, lexeme, ended, after_tokens, run, move_of, mark_move, first_of_two}
+use Rattle.mb_lexer.specs.machine.Machine.{Machine, idle, lexeme, ended, after_tokens, run, move_of, mark_move, first_of_two}
 use Rattle.mb_lexer.proofs.Steps.{machine, Stops, run_ends, run_goes, begin_goes, to_same}
 use Rattle.mb_lexer.proofs.Signs.{begun-equal}
 use Rattle.mb_lexer.proofs.Signed.{other_way}
@@ -75,21 +75,21 @@ module _ (first : Mark) (s : State) (a : ℕ) (pair : Pair first s a) (from to :
       token_reads (lexeme (mark first) from (from + 1) line) (a ∷ []) (61 ∷ rest) from before ts stop (sym pair.text_is, (pair.alone rest h).0, (pair.alone rest h).1) refl (ap (λ n. from + n) (sym (ap (λ n. n + 0) pair.one_byte))) line_is g
 
   -- two marks, and what comes after them
-  pub pair_ends : (rest : List ℕ) → begins (λ c. c == 61 || c == 62) rest ≡ false → Told to false rest (run (fresh to false) rest) → Told from before (seen ++ rest) (run (machine s from to line us) rest)
+  pub pair_ends : (rest : List ℕ) → begins (λ c. c == 61 || c == 62) rest ≡ false → Told to false rest (run (idle to false) rest) → Told from before (seen ++ rest) (run (machine s from to line us) rest)
   pair_ends rest h g =
       told_same from before (a ∷ 61 ∷ rest) (seen ++ rest) _ _ (sym (ap (λ xs. xs ++ rest) seen_is)) (sym (run_ends (machine s from to line us) (lexeme (mark first) from (from + 1) line ∷ lexeme (mark Equal) (from + 1) to false ∷ []) rest (pair.both (machine s from to line us)) (pair_stops rest h)))
-      (first_told rest (lexeme (mark Equal) (from + 1) to false ∷ (run (fresh to false) rest).tokens) (run (fresh to false) rest).stop (no_equal rest h)
+      (first_told rest (lexeme (mark Equal) (from + 1) to false ∷ (run (idle to false) rest).tokens) (run (idle to false) rest).stop (no_equal rest h)
       (token_reads (lexeme (mark Equal) (from + 1) to false) (61 ∷ []) rest (from + 1) false _ _ (second_equal rest h) refl (place_is ∙ (let e : from + 2 ≡ from + 1 + 1 = omega arith in e)) refl g))
 
   -- a pair before a character
-  pub pair_step : (c : ℕ) (cs : List ℕ) → IsRight cs → IsOpen (machine s from to line us) before seen → ((at : ℕ) (line : Bool) → Told at line (c ∷ cs) (run (fresh at line) (c ∷ cs)))
+  pub pair_step : (c : ℕ) (cs : List ℕ) → IsRight cs → IsOpen (machine s from to line us) before seen → ((at : ℕ) (line : Bool) → Told at line (c ∷ cs) (run (idle at line) (c ∷ cs)))
       → Told from before (seen ++ c ∷ cs) (run (machine s from to line us) (c ∷ cs))
   pair_step c cs right o again =
       ⊎_elim (λ (y : (c == 61) ≡ true). goes_on (machine s from to line us) before seen c (InMark pair.third) cs right o (pair.moves c ∙ simp y) (ap (λ xs. xs ++ c ∷ []) seen_is ∙ ap (λ d. a ∷ 61 ∷ d ∷ []) (eqb-true c 61 y) ∙ sym pair.third_is, line_is, us_is))
       (λ (n : (c == 61) ≡ false). ⊎_elim (λ (y : (c == 62) ≡ true). splits n y) (λ (m : (c == 62) ≡ false). pair_ends (c ∷ cs) (or_from _ _ n m) (again to false)) (cases_Bool (c == 62)))
       (cases_Bool (c == 61))
     where
-      arrow : (rest : List ℕ) → run (fresh (from + 1) false) (61 ∷ 62 ∷ rest) ≡ run (machine (InMark Arrow) (from + 1) (to + 1) false us) rest
+      arrow : (rest : List ℕ) → run (idle (from + 1) false) (61 ∷ 62 ∷ rest) ≡ run (machine (InMark Arrow) (from + 1) (to + 1) false us) rest
       arrow rest =
           begin_goes (from + 1) false 61 (InMark Equal) (62 ∷ rest) begun-equal
           ∙ run_goes (machine (InMark Equal) (from + 1) (from + 1 + 1) false []) 62 (InMark Arrow) rest equal_arrow

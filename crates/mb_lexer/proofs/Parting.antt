@@ -8,14 +8,14 @@ use Rattle.mb_token.specs.declared.mark.Mark.TheVariants.{Slash}
 use Rattle.mb_lexer.specs.declared.state.State.TheVariants.{Between, InLineComment, InBlockComment, InMark}
 use Rattle.mb_lexer.specs.declared.state.Move.TheVariants.{Goes}
 use Rattle.mb_lexer.specs.Characters.{is_line_end, begins, width}
-use Rattle.mb_lexer.specs.Parts.{Part, space, line_comment, block_comment, spelled, is_part, are_parts, has_line, has_close}
-use Rattle.mb_lexer.specs.Machine.{Machine, fresh, run, begun, opening_of, mark_move}
+use Rattle.mb_lexer.specs.Parts.{Part, space, line_comment, block_comment, part_text, is_part, are_parts, has_line, has_close}
+use Rattle.mb_lexer.specs.machine.Machine.{Machine, idle, run, begun, opening_of, mark_move}
 use Rattle.mb_lexer.proofs.Classes.{begun-space}
 use Rattle.mb_lexer.proofs.Steps.{machine, to_same, between_same, run_goes, begin_goes, run_ends, Stops}
 use Rattle.unicode_ident.proofs.Computing.{unicode_ident}
 
-pub fresh_same : (at at' : ℕ) (line line' : Bool) (cs : List ℕ) → at ≡ at' → line ≡ line' → run (fresh at line) cs ≡ run (fresh at' line') cs
-fresh_same at at' line line' cs e f = λ i. run (fresh (e i) (f i)) cs
+pub fresh_same : (at at' : ℕ) (line line' : Bool) (cs : List ℕ) → at ≡ at' → line ≡ line' → run (idle at line) cs ≡ run (idle at' line') cs
+fresh_same at at' line line' cs e f = λ i. run (idle (e i) (f i)) cs
 
 pub or_if : (line b : Bool) → (cond b true line) ≡ (line || b)
 or_if true true = refl
@@ -51,7 +51,7 @@ line_stops m (c ∷ cs) e h = rw e (simp (line_at c h))
     line_at : (c : ℕ) → not (is_line_end c) ≡ false → is_line_end c ≡ true
     line_at c h = elim (is_line_end c) as (λ b. not b ≡ false → b ≡ true) [ true ↦ λ _. refl | false ↦ λ e. absurd (true≢false e) ] h
 
-line_part : (cs rest : List ℕ) (at : ℕ) (line : Bool) → is_part (line_comment cs) rest ≡ true → run (fresh at line) (47 ∷ 47 ∷ (cs ++ rest)) ≡ run (fresh (at + (1 + (1 + width cs))) line) rest
+line_part : (cs rest : List ℕ) (at : ℕ) (line : Bool) → is_part (line_comment cs) rest ≡ true → run (idle at line) (47 ∷ 47 ∷ (cs ++ rest)) ≡ run (idle (at + (1 + (1 + width cs))) line) rest
 unfolding mark_move
 line_part cs rest at line h =
     let p : (not (list_any is_line_end cs) ≡ true) × (not (begins (λ c. not (is_line_end c)) rest) ≡ true) = and_parts _ _ h in
@@ -62,7 +62,7 @@ line_part cs rest at line h =
 
 -- a block comment up to its end
 in_block : (cs rest : List ℕ) (star : Bool) (from to : ℕ) (line : Bool) (us : List ℕ) → has_close cs ≡ false → (star && begins (λ d. d == 47) cs) ≡ false
-    → run (machine (InBlockComment star) from to line us) (cs ++ 42 ∷ 47 ∷ rest) ≡ run (fresh (to + (width cs + 2)) (line || list_any is_line_end cs)) rest
+    → run (machine (InBlockComment star) from to line us) (cs ++ 42 ∷ 47 ∷ rest) ≡ run (idle (to + (width cs + 2)) (line || list_any is_line_end cs)) rest
 in_block [] rest star from to line us h g =
     run_goes (machine (InBlockComment star) from to line us) 42 (InBlockComment true) (47 ∷ rest) (not_yet star)
     ∙ between_same from (to + 1 + 1) line us rest
@@ -82,15 +82,15 @@ width-append [] ys = sym (zero-add (width ys))
 width-append (x ∷ xs) ys = ap (λ n. len_utf8 x + n) (width-append xs ys) ∙ sym (add_assoc (len_utf8 x) (width xs) (width ys))
 
 block_part : (cs rest : List ℕ) (at : ℕ) (line : Bool) → is_part (block_comment cs) rest ≡ true
-    → run (fresh at line) (47 ∷ 42 ∷ ((cs ++ 42 ∷ 47 ∷ []) ++ rest)) ≡ run (fresh (at + (1 + (1 + width (cs ++ 42 ∷ 47 ∷ [])))) (line || list_any is_line_end cs)) rest
+    → run (idle at line) (47 ∷ 42 ∷ ((cs ++ 42 ∷ 47 ∷ []) ++ rest)) ≡ run (idle (at + (1 + (1 + width (cs ++ 42 ∷ 47 ∷ [])))) (line || list_any is_line_end cs)) rest
 unfolding mark_move
 block_part cs rest at line h =
-    ap (λ xs. run (fresh at line) (47 ∷ 42 ∷ xs)) (append_assoc cs (42 ∷ 47 ∷ []) rest)
+    ap (λ xs. run (idle at line) (47 ∷ 42 ∷ xs)) (append_assoc cs (42 ∷ 47 ∷ []) rest)
     ∙ begin_goes at line 47 (InMark Slash) (42 ∷ (cs ++ 42 ∷ 47 ∷ rest)) begun-slash
     ∙ in_block cs rest false at (at + 1 + 1) line [] (not-true _ h) refl
     ∙ fresh_same _ _ _ _ rest (rw (width-append cs (42 ∷ 47 ∷ [])) (omega arith)) refl
 
-pub part_run : (p : Part) (rest : List ℕ) (at : ℕ) (line : Bool) → is_part p rest ≡ true → run (fresh at line) (spelled p ++ rest) ≡ run (fresh (at + width (spelled p)) (line || has_line p)) rest
+pub part_run : (p : Part) (rest : List ℕ) (at : ℕ) (line : Bool) → is_part p rest ≡ true → run (idle at line) (part_text p ++ rest) ≡ run (idle (at + width (part_text p)) (line || has_line p)) rest
 part_run (space c) rest at line h =
     begin_goes at line c Between rest (begun-space c h)
     ∙ between_same at (at + len_utf8 c) (cond (is_line_end c) true line) [] rest
@@ -100,11 +100,11 @@ part_run (block_comment cs) rest at line h = block_part cs rest at line h
 
 -- the machine passes over parts
 pub parts_run : (ps : List Part) (rest : List ℕ) (at : ℕ) (line : Bool) → are_parts ps rest ≡ true
-    → run (fresh at line) (flat_map spelled ps ++ rest) ≡ run (fresh (at + width (flat_map spelled ps)) (line || list_any has_line ps)) rest
+    → run (idle at line) (flat_map part_text ps ++ rest) ≡ run (idle (at + width (flat_map part_text ps)) (line || list_any has_line ps)) rest
 parts_run [] rest at line h = fresh_same _ _ _ _ rest (sym (add-zero at)) (sym (or_false line))
 parts_run (p ∷ ps) rest at line h =
-    let g : (is_part p (flat_map spelled ps ++ rest) ≡ true) × (are_parts ps rest ≡ true) = and_parts _ _ h in
-    ap (λ xs. run (fresh at line) xs) (append_assoc (spelled p) (flat_map spelled ps) rest)
-    ∙ part_run p (flat_map spelled ps ++ rest) at line g.0
-    ∙ parts_run ps rest (at + width (spelled p)) (line || has_line p) g.1
-    ∙ fresh_same _ _ _ _ rest (rw (width-append (spelled p) (flat_map spelled ps)) (omega arith)) (or_assoc line (has_line p) (list_any has_line ps))
+    let g : (is_part p (flat_map part_text ps ++ rest) ≡ true) × (are_parts ps rest ≡ true) = and_parts _ _ h in
+    ap (λ xs. run (idle at line) xs) (append_assoc (part_text p) (flat_map part_text ps) rest)
+    ∙ part_run p (flat_map part_text ps ++ rest) at line g.0
+    ∙ parts_run ps rest (at + width (part_text p)) (line || has_line p) g.1
+    ∙ fresh_same _ _ _ _ rest (rw (width-append (part_text p) (flat_map part_text ps)) (omega arith)) (or_assoc line (has_line p) (list_any has_line ps))

@@ -11,9 +11,9 @@ use Rattle.mb_lexer.specs.declared.state.Inside.{Inside}
 use Rattle.mb_lexer.specs.declared.state.Inside.TheVariants.{Plain, Nul, Escape, Unicode, Digits, Open, Code}
 use Rattle.mb_lexer.specs.declared.state.Move.TheVariants.{Goes, Adds}
 use Rattle.mb_lexer.specs.Characters.{is_line_end, is_quote, begins, width}
-use Rattle.mb_lexer.specs.Strings.{Piece, plain, escaped, pair, four, braced, number_from, number, spelled, units, stands_for, is_hex, is_piece, are_pieces}
+use Rattle.mb_lexer.specs.Strings.{Piece, plain, escaped, pair, four, braced, number_from, number_of, piece_text, units, stands_for, is_hex, is_piece, are_pieces}
 use Rattle.mb_lexer.specs.Tokens.{IsText, text}
-use Rattle.mb_lexer.specs.Machine.{Machine, fresh, lexeme, after_tokens, run, move_of, plain_move, escape_move, hex_move, code_move}
+use Rattle.mb_lexer.specs.machine.Machine.{Machine, idle, lexeme, after_tokens, run, move_of, plain_move, escape_move, hex_move, code_move}
 use Rattle.mb_lexer.proofs.Classes.{begun-quote, at_numeral}
 use Rattle.mb_lexer.proofs.Steps.{machine, run_goes, run_adds, begin_goes, run_ends, Stops}
 use Rattle.mb_lexer.proofs.Parting.{width-append}
@@ -96,8 +96,8 @@ in_code (d ∷ ds) rest q value from to line us h l =
     ∙ in_code ds rest q n from (to + len_utf8 d) line us p.1 l
     ∙ quoted_same q (Code (number_from 16 n ds)) from _ _ line us us rest (add_assoc to (len_utf8 d) (width ds)) refl
 
-braced_run : (ds rest : List ℕ) (q from to : ℕ) (line : Bool) (us : List ℕ) → not (length ds == 0) ≡ true → list_all is_hex ds ≡ true → number 16 ds ≤ 0x10ffff
-    → run (quoted q Open from to line us) (ds ++ 125 ∷ rest) ≡ run (quoted q Plain from (to + (width ds + 1)) line (us ++ encode_utf16 (number 16 ds))) rest
+braced_run : (ds rest : List ℕ) (q from to : ℕ) (line : Bool) (us : List ℕ) → not (length ds == 0) ≡ true → list_all is_hex ds ≡ true → number_of 16 ds ≤ 0x10ffff
+    → run (quoted q Open from to line us) (ds ++ 125 ∷ rest) ≡ run (quoted q Plain from (to + (width ds + 1)) line (us ++ encode_utf16 (number_of 16 ds))) rest
 braced_run [] rest q from to line us z h l = absurd (true≢false (sym z))
 braced_run (d ∷ ds) rest q from to line us z h l =
     let p : (is_hex d ≡ true) × (list_all is_hex ds ≡ true) = and_parts _ _ h in
@@ -120,7 +120,7 @@ escaped_run q c rest from to line us h =
 
 -- a piece, and what comes after it
 pub piece_run : (q : ℕ) (p : Piece) (rest : List ℕ) (from to : ℕ) (line : Bool) (us : List ℕ) → is_quote q ≡ true → is_piece q p rest ≡ true
-    → run (quoted q Plain from to line us) (spelled p ++ rest) ≡ run (quoted q Plain from (to + width (spelled p)) line (us ++ units p)) rest
+    → run (quoted q Plain from to line us) (piece_text p ++ rest) ≡ run (quoted q Plain from (to + width (piece_text p)) line (us ++ units p)) rest
 unfolding escape_move hex_move
 piece_run q (plain c) rest from to line us k h =
     run_adds (quoted q Plain from to line us) c c (InText q Plain) rest (plain_goes q c h)
@@ -135,7 +135,7 @@ piece_run q (pair a b) rest from to line us k h =
     run_goes (quoted q Plain from to line us) 92 (InText q Escape) (120 ∷ a ∷ b ∷ rest) (escape_goes q k)
     ∙ run_goes (quoted q Escape from (to + 1) line us) 120 (InText q (Digits 2 0)) (a ∷ b ∷ rest) refl
     ∙ run_goes (quoted q (Digits 2 0) from (to + 1 + 1) line us) a (InText q (Digits 1 (0 * 16 + digit_value a))) (b ∷ rest) (hex_goes q 2 0 a p.0 (omega arith) (omega arith))
-    ∙ run_adds (quoted q (Digits 1 (0 * 16 + digit_value a)) from (to + 1 + 1 + len_utf8 a) line us) b (number 16 (a ∷ b ∷ [])) (InText q Plain) rest (hex_adds q (0 * 16 + digit_value a) b p.1 (omega arith))
+    ∙ run_adds (quoted q (Digits 1 (0 * 16 + digit_value a)) from (to + 1 + 1 + len_utf8 a) line us) b (number_of 16 (a ∷ b ∷ [])) (InText q Plain) rest (hex_adds q (0 * 16 + digit_value a) b p.1 (omega arith))
     ∙ quoted_same q Plain from _ _ line _ _ rest (let e : to + 1 + 1 + len_utf8 a + len_utf8 b ≡ to + (1 + (1 + (len_utf8 a + (len_utf8 b + 0)))) = omega arith in e) refl
 piece_run q (four a b c d) rest from to line us k h =
     let p : ((is_hex a && is_hex b && is_hex c) ≡ true) × (is_hex d ≡ true) = and_parts _ _ h in
@@ -158,7 +158,7 @@ piece_run q (four a b c d) rest from to line us k h =
     ∙ run_adds (quoted q (Digits 1 z) from (to + 1 + 1 + len_utf8 a + len_utf8 b + len_utf8 c) line us) d (z * 16 + digit_value d) (InText q Plain) rest (hex_adds q z d p.1 lz)
     ∙ quoted_same q Plain from _ _ line _ _ rest (let e : to + 1 + 1 + len_utf8 a + len_utf8 b + len_utf8 c + len_utf8 d ≡ to + (1 + (1 + (len_utf8 a + (len_utf8 b + (len_utf8 c + (len_utf8 d + 0)))))) = omega arith in e) refl
 piece_run q (braced ds) rest from to line us k h =
-    let p : ((not (length ds == 0) && list_all is_hex ds) ≡ true) × (nat_le (number 16 ds) 0x10ffff ≡ true) = and_parts _ _ h in
+    let p : ((not (length ds == 0) && list_all is_hex ds) ≡ true) × (nat_le (number_of 16 ds) 0x10ffff ≡ true) = and_parts _ _ h in
     let r : (not (length ds == 0) ≡ true) × (list_all is_hex ds ≡ true) = and_parts _ _ p.0 in
     run_goes (quoted q Plain from to line us) 92 (InText q Escape) (117 ∷ 123 ∷ ((ds ++ 125 ∷ []) ++ rest)) (escape_goes q k)
     ∙ run_goes (quoted q Escape from (to + 1) line us) 117 (InText q Unicode) (123 ∷ ((ds ++ 125 ∷ []) ++ rest)) refl
@@ -169,14 +169,14 @@ piece_run q (braced ds) rest from to line us k h =
 
 -- pieces, and what comes after them
 pub pieces_run : (q : ℕ) (ps : List Piece) (rest : List ℕ) (from to : ℕ) (line : Bool) (us : List ℕ) → is_quote q ≡ true → are_pieces q ps rest ≡ true
-    → run (quoted q Plain from to line us) (flat_map spelled ps ++ rest) ≡ run (quoted q Plain from (to + width (flat_map spelled ps)) line (us ++ flat_map units ps)) rest
+    → run (quoted q Plain from to line us) (flat_map piece_text ps ++ rest) ≡ run (quoted q Plain from (to + width (flat_map piece_text ps)) line (us ++ flat_map units ps)) rest
 pieces_run q [] rest from to line us k h = quoted_same q Plain from _ _ line _ _ rest (sym (add-zero to)) (sym (append-nil us))
 pieces_run q (p ∷ ps) rest from to line us k h =
-    let g : (is_piece q p (flat_map spelled ps ++ rest) ≡ true) × (are_pieces q ps rest ≡ true) = and_parts _ _ h in
-    ap (λ xs. run (quoted q Plain from to line us) xs) (append_assoc (spelled p) (flat_map spelled ps) rest)
-    ∙ piece_run q p (flat_map spelled ps ++ rest) from to line us k g.0
-    ∙ pieces_run q ps rest from (to + width (spelled p)) line (us ++ units p) k g.1
-    ∙ quoted_same q Plain from _ _ line _ _ rest (rw (width-append (spelled p) (flat_map spelled ps)) (omega arith)) (append_assoc us (units p) (flat_map units ps))
+    let g : (is_piece q p (flat_map piece_text ps ++ rest) ≡ true) × (are_pieces q ps rest ≡ true) = and_parts _ _ h in
+    ap (λ xs. run (quoted q Plain from to line us) xs) (append_assoc (piece_text p) (flat_map piece_text ps) rest)
+    ∙ piece_run q p (flat_map piece_text ps ++ rest) from to line us k g.0
+    ∙ pieces_run q ps rest from (to + width (piece_text p)) line (us ++ units p) k g.1
+    ∙ quoted_same q Plain from _ _ line _ _ rest (rw (width-append (piece_text p) (flat_map piece_text ps)) (omega arith)) (append_assoc us (units p) (flat_map units ps))
 
 begins_seam : (test : ℕ → Bool) (zs : List ℕ) (q : ℕ) (xs ys : List ℕ) → begins test (zs ++ q ∷ xs) ≡ begins test (zs ++ q ∷ ys)
 begins_seam test [] q xs ys = refl
@@ -192,7 +192,7 @@ piece_seam q (braced ds) zs xs ys = refl
 -- pieces end at their quote, whatever comes after it
 pub pieces_seam : (q : ℕ) (ps : List Piece) (xs ys : List ℕ) → are_pieces q ps (q ∷ xs) ≡ are_pieces q ps (q ∷ ys)
 pieces_seam q [] xs ys = refl
-pieces_seam q (p ∷ ps) xs ys = λ i. piece_seam q p (flat_map spelled ps) xs ys i && pieces_seam q ps xs ys i
+pieces_seam q (p ∷ ps) xs ys = λ i. piece_seam q p (flat_map piece_text ps) xs ys i && pieces_seam q ps xs ys i
 
 pub closes : (q : ℕ) → move_of (InText q Plain) q ≡ Goes AfterText
 unfolding plain_move
@@ -204,16 +204,16 @@ after_text_stops m (c ∷ cs) e = rw e refl
 
 -- a text, and what comes after it
 pub text_run : (us cs rest : List ℕ) (at : ℕ) (line : Bool) → IsText us cs
-    → run (fresh at line) (cs ++ rest) ≡ after_tokens (lexeme (text us) at (at + width cs) line ∷ []) (run (fresh (at + width cs) false) rest)
+    → run (idle at line) (cs ++ rest) ≡ after_tokens (lexeme (text us) at (at + width cs) line ∷ []) (run (idle (at + width cs) false) rest)
 text_run us cs rest at line t =
     let q : ℕ = t.quote in
-    let inner : List ℕ = flat_map spelled t.pieces in
+    let inner : List ℕ = flat_map piece_text t.pieces in
     let to : ℕ = at + len_utf8 q + width inner + len_utf8 q in
     let m : Machine = machine AfterText at to line (flat_map units t.pieces) in
     let e : to ≡ at + width cs = rw (t.form, width-append inner (q ∷ [])) (omega arith) in
-    ap (λ xs. run (fresh at line) xs) (ap (λ xs. xs ++ rest) t.form ∙ ap (λ xs. q ∷ xs) (append_assoc inner (q ∷ []) rest))
+    ap (λ xs. run (idle at line) xs) (ap (λ xs. xs ++ rest) t.form ∙ ap (λ xs. q ∷ xs) (append_assoc inner (q ∷ []) rest))
     ∙ begin_goes at line q (InText q Plain) (inner ++ q ∷ rest) (begun-quote q t.quoted)
     ∙ pieces_run q t.pieces (q ∷ rest) at (at + len_utf8 q) line [] t.quoted (pieces_seam q t.pieces rest [] ∙ t.inside)
     ∙ run_goes (quoted q Plain at (at + len_utf8 q + width inner) line (flat_map units t.pieces)) q AfterText rest (closes q)
     ∙ run_ends m (lexeme (text (flat_map units t.pieces)) at to line ∷ []) rest refl (after_text_stops m rest refl)
-    ∙ (λ i. after_tokens (lexeme (text (sym t.units i)) at (e i) line ∷ []) (run (fresh (e i) false) rest))
+    ∙ (λ i. after_tokens (lexeme (text (sym t.units i)) at (e i) line ∷ []) (run (idle (e i) false) rest))

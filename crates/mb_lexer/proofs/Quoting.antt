@@ -12,9 +12,9 @@ use Rattle.mb_lexer.specs.declared.state.Inside.{Inside}
 use Rattle.mb_lexer.specs.declared.state.Inside.TheVariants.{Plain, Nul, Escape, Unicode, Digits, Open, Code}
 use Rattle.mb_lexer.specs.declared.state.Move.TheVariants.{Goes, Adds, Fails}
 use Rattle.mb_lexer.specs.Characters.{is_line_end, is_quote}
-use Rattle.mb_lexer.specs.Strings.{Piece, plain, escaped, pair, four, braced, number, spelled, units, stands_for, is_hex, is_piece, are_pieces}
+use Rattle.mb_lexer.specs.Strings.{Piece, plain, escaped, pair, four, braced, number_of, piece_text, units, stands_for, is_hex, is_piece, are_pieces}
 use Rattle.mb_lexer.specs.Reading.{other}
-use Rattle.mb_lexer.specs.Machine.{run, plain_move, escape_move, hex_move, code_move, inside_move}
+use Rattle.mb_lexer.specs.machine.Machine.{run, plain_move, escape_move, hex_move, code_move, inside_move}
 use Rattle.mb_lexer.proofs.Classes.{at_numeral}
 use Rattle.mb_lexer.proofs.Steps.{machine}
 use Rattle.mb_lexer.proofs.Quoted.{hex_value, hex_goes, hex_adds, code_goes}
@@ -22,15 +22,15 @@ use Rattle.mb_lexer.proofs.Worded.{list_all-push, number_push, run_fails}
 use Rattle.mb_lexer.proofs.Open.{Told, IsOpen, IsRight, Quoting, Front, Follows, goes_on, adds_on}
 use Rattle.mb_lexer.proofs.Telling.{fault_here}
 
-pieces_push : (q : ℕ) (ps : List Piece) (p : Piece) (rest : List ℕ) → are_pieces q ps (spelled p ++ rest) ≡ true → is_piece q p rest ≡ true → are_pieces q (ps ++ p ∷ []) rest ≡ true
+pieces_push : (q : ℕ) (ps : List Piece) (p : Piece) (rest : List ℕ) → are_pieces q ps (piece_text p ++ rest) ≡ true → is_piece q p rest ≡ true → are_pieces q (ps ++ p ∷ []) rest ≡ true
 pieces_push q [] p rest h g = and_from _ _ g refl
 pieces_push q (o ∷ ps) p rest h g =
-    let r : (is_piece q o (flat_map spelled ps ++ (spelled p ++ rest)) ≡ true) × (are_pieces q ps (spelled p ++ rest) ≡ true) = and_parts _ _ h in
-    let e : flat_map spelled ps ++ (spelled p ++ rest) ≡ flat_map spelled (ps ++ p ∷ []) ++ rest = sym (append_assoc (flat_map spelled ps) (spelled p) rest) ∙ ap (λ xs. xs ++ rest) (sym (flat_push ps p)) in
+    let r : (is_piece q o (flat_map piece_text ps ++ (piece_text p ++ rest)) ≡ true) × (are_pieces q ps (piece_text p ++ rest) ≡ true) = and_parts _ _ h in
+    let e : flat_map piece_text ps ++ (piece_text p ++ rest) ≡ flat_map piece_text (ps ++ p ∷ []) ++ rest = sym (append_assoc (flat_map piece_text ps) (piece_text p) rest) ∙ ap (λ xs. xs ++ rest) (sym (flat_push ps p)) in
     and_from _ _ (subst (λ xs. is_piece q o xs ≡ true) e r.0) (pieces_push q ps p rest r.1 g)
   where
-    flat_push : (ps : List Piece) (p : Piece) → flat_map spelled (ps ++ p ∷ []) ≡ flat_map spelled ps ++ spelled p
-    flat_push ps p = flat_map-append spelled ps (p ∷ []) ∙ ap (λ xs. flat_map spelled ps ++ xs) (append-nil (spelled p))
+    flat_push : (ps : List Piece) (p : Piece) → flat_map piece_text (ps ++ p ∷ []) ≡ flat_map piece_text ps ++ piece_text p
+    flat_push ps p = flat_map-append piece_text ps (p ∷ []) ∙ ap (λ xs. flat_map piece_text ps ++ xs) (append-nil (piece_text p))
 
 flat_one : {A : Type 0} (f : A → List ℕ) (xs : List A) (x : A) → flat_map f (xs ++ x ∷ []) ≡ flat_map f xs ++ f x
 flat_one f xs x = flat_map-append f xs (x ∷ []) ∙ ap (λ ys. flat_map f xs ++ ys) (append-nil (f x))
@@ -41,20 +41,20 @@ front_grows q i j us seen c t f g = record {
   quoted = t.quoted;
   pieces = t.pieces;
   front = t.front ++ c ∷ [];
-  seen_is = ap (λ xs. xs ++ c ∷ []) t.seen_is ∙ ap (λ xs. q ∷ xs) (append_assoc (flat_map spelled t.pieces) t.front (c ∷ []));
+  seen_is = ap (λ xs. xs ++ c ∷ []) t.seen_is ∙ ap (λ xs. q ∷ xs) (append_assoc (flat_map piece_text t.pieces) t.front (c ∷ []));
   units_are = t.units_are;
   fits = λ rest h. ap (λ xs. are_pieces q t.pieces xs) (append_assoc t.front (c ∷ []) rest) ∙ t.fits (c ∷ rest) (f rest);
   front_is = g;
 }
 
 -- a piece ends with a character
-piece_done : (q : ℕ) (i j : Inside) (us seen : List ℕ) (c code : ℕ) (p : Piece) (t : Quoting q i us seen) → ((rest : List ℕ) → Follows i (c ∷ rest)) → spelled p ≡ t.front ++ c ∷ [] → units p ≡ encode_utf16 code
+piece_done : (q : ℕ) (i j : Inside) (us seen : List ℕ) (c code : ℕ) (p : Piece) (t : Quoting q i us seen) → ((rest : List ℕ) → Follows i (c ∷ rest)) → piece_text p ≡ t.front ++ c ∷ [] → units p ≡ encode_utf16 code
     → ((rest : List ℕ) → Follows j rest → is_piece q p rest ≡ true) → Front j [] → Quoting q j (us ++ encode_utf16 code) (seen ++ c ∷ [])
 piece_done q i j us seen c code p t f e u g k = record {
   quoted = t.quoted;
   pieces = t.pieces ++ p ∷ [];
   front = [];
-  seen_is = ap (λ xs. xs ++ c ∷ []) t.seen_is ∙ ap (λ xs. q ∷ xs) (append_assoc (flat_map spelled t.pieces) t.front (c ∷ []) ∙ ap (λ xs. flat_map spelled t.pieces ++ xs) (sym e) ∙ sym (flat_one spelled t.pieces p) ∙ sym (append-nil (flat_map spelled (t.pieces ++ p ∷ []))));
+  seen_is = ap (λ xs. xs ++ c ∷ []) t.seen_is ∙ ap (λ xs. q ∷ xs) (append_assoc (flat_map piece_text t.pieces) t.front (c ∷ []) ∙ ap (λ xs. flat_map piece_text t.pieces ++ xs) (sym e) ∙ sym (flat_one piece_text t.pieces p) ∙ sym (append-nil (flat_map piece_text (t.pieces ++ p ∷ []))));
   units_are = (λ n. t.units_are n ++ sym u n) ∙ sym (flat_one units t.pieces p);
   fits = λ rest h. pieces_push q t.pieces p rest (ap (λ xs. are_pieces q t.pieces xs) (ap (λ xs. xs ++ rest) e ∙ append_assoc t.front (c ∷ []) rest) ∙ t.fits (c ∷ rest) (f rest)) (g rest h);
   front_is = k;
@@ -122,12 +122,12 @@ module _ (q c : ℕ) (cs : List ℕ) (from to : ℕ) (line : Bool) (us : List �
   text_fails : (i : Inside) → IsOpen (machine (InText q i) from to line us) before seen → inside_move q i c ≡ Fails → Right i
   text_fails i o h =
       let t : Quoting q i us seen = o.means.0 in
-      fault_here (machine (InText q i) from to line us) before seen (c ∷ cs) other q (flat_map spelled t.pieces ++ t.front) o t.seen_is (run_fails (machine (InText q i) from to line us) c cs h) (simp (quote_no_digit q t.quoted))
+      fault_here (machine (InText q i) from to line us) before seen (c ∷ cs) other q (flat_map piece_text t.pieces ++ t.front) o t.seen_is (run_fails (machine (InText q i) from to line us) c cs h) (simp (quote_no_digit q t.quoted))
 
   text_grows : (i j : Inside) (o : IsOpen (machine (InText q i) from to line us) before seen) → inside_move q i c ≡ Goes (InText q j) → ((rest : List ℕ) → Follows i (c ∷ rest)) → Front j ((o.means.0).front ++ c ∷ []) → Right i
   text_grows i j o h f g = goes_on (machine (InText q i) from to line us) before seen c (InText q j) cs right o h (front_grows q i j us seen c o.means.0 f g, o.means.1)
 
-  text_adds : (i j : Inside) (code : ℕ) (p : Piece) (o : IsOpen (machine (InText q i) from to line us) before seen) → inside_move q i c ≡ Adds (InText q j) code → ((rest : List ℕ) → Follows i (c ∷ rest)) → spelled p ≡ (o.means.0).front ++ c ∷ [] → units p ≡ encode_utf16 code
+  text_adds : (i j : Inside) (code : ℕ) (p : Piece) (o : IsOpen (machine (InText q i) from to line us) before seen) → inside_move q i c ≡ Adds (InText q j) code → ((rest : List ℕ) → Follows i (c ∷ rest)) → piece_text p ≡ (o.means.0).front ++ c ∷ [] → units p ≡ encode_utf16 code
       → ((rest : List ℕ) → Follows j rest → is_piece q p rest ≡ true) → Front j [] → Right i
   text_adds i j code p o h f e u g k = adds_on (machine (InText q i) from to line us) before seen c code (InText q j) cs right o h (piece_done q i j us seen c code p o.means.0 f e u g k, o.means.1)
 
@@ -153,7 +153,7 @@ module _ (q c : ℕ) (cs : List ℕ) (from to : ℕ) (line : Bool) (us : List �
               quote = q;
               pieces = t.pieces;
               quoted = t.quoted;
-              form = ap (λ xs. xs ++ c ∷ []) t.seen_is ∙ ap (λ xs. q ∷ xs) (append_assoc (flat_map spelled t.pieces) t.front (c ∷ []) ∙ ap (λ xs. flat_map spelled t.pieces ++ xs) (ap (λ xs. xs ++ c ∷ []) e ∙ ap (λ n. n ∷ []) d));
+              form = ap (λ xs. xs ++ c ∷ []) t.seen_is ∙ ap (λ xs. q ∷ xs) (append_assoc (flat_map piece_text t.pieces) t.front (c ∷ []) ∙ ap (λ xs. flat_map piece_text t.pieces ++ xs) (ap (λ xs. xs ++ c ∷ []) e ∙ ap (λ n. n ∷ []) d));
               inside = ap (λ xs. are_pieces q t.pieces xs) (sym (ap (λ xs. xs ++ c ∷ []) e ∙ ap (λ n. n ∷ []) d)) ∙ t.fits (c ∷ []) (f []);
               units = t.units_are;
             },
@@ -200,26 +200,26 @@ module _ (q c : ℕ) (cs : List ℕ) (from to : ℕ) (line : Bool) (us : List �
               let v : value < 4096 = omega arith in
               text_grows (Digits left value) (Digits 1 (value * 16 + digit_value c)) o (more_digits q left value c 2 f.1 h (omega arith) v) (λ rest. tt) (inr (inl (c, next _ f.0, h, refl, ap (λ n. n * 16 + digit_value c) f.2)))
 
-          second : (a : ℕ) × (t.front ≡ 92 ∷ 120 ∷ a ∷ []) × (is_hex a ≡ true) × (left ≡ 1) × (value ≡ number 16 (a ∷ [])) → Right (Digits left value)
+          second : (a : ℕ) × (t.front ≡ 92 ∷ 120 ∷ a ∷ []) × (is_hex a ≡ true) × (left ≡ 1) × (value ≡ number_of 16 (a ∷ [])) → Right (Digits left value)
           second f =
               let va : digit_value f.0 < 16 = hex_value f.0 f.2 in
               let v : value < 4096 = omega arith in
               text_adds (Digits left value) Plain (value * 16 + digit_value c) (pair f.0 c) o (last_digit q left value c f.3 h v) (λ rest. tt) (sym (next _ f.1)) (ap (λ n. encode_utf16 (n * 16 + digit_value c)) (sym f.4)) (λ rest g. and_from _ _ f.2 h) refl
 
-          third : (a : ℕ) × (t.front ≡ 92 ∷ 117 ∷ a ∷ []) × (is_hex a ≡ true) × (left ≡ 3) × (value ≡ number 16 (a ∷ [])) → Right (Digits left value)
+          third : (a : ℕ) × (t.front ≡ 92 ∷ 117 ∷ a ∷ []) × (is_hex a ≡ true) × (left ≡ 3) × (value ≡ number_of 16 (a ∷ [])) → Right (Digits left value)
           third f =
               let va : digit_value f.0 < 16 = hex_value f.0 f.2 in
               let v : value < 4096 = omega arith in
               text_grows (Digits left value) (Digits 2 (value * 16 + digit_value c)) o (more_digits q left value c 3 f.3 h (omega arith) v) (λ rest. tt) (inr (inr (inr (inl (f.0, c, next _ f.1, f.2, h, refl, ap (λ n. n * 16 + digit_value c) f.4)))))
 
-          fourth : (a : ℕ) × (b : ℕ) × (t.front ≡ 92 ∷ 117 ∷ a ∷ b ∷ []) × (is_hex a ≡ true) × (is_hex b ≡ true) × (left ≡ 2) × (value ≡ number 16 (a ∷ b ∷ [])) → Right (Digits left value)
+          fourth : (a : ℕ) × (b : ℕ) × (t.front ≡ 92 ∷ 117 ∷ a ∷ b ∷ []) × (is_hex a ≡ true) × (is_hex b ≡ true) × (left ≡ 2) × (value ≡ number_of 16 (a ∷ b ∷ [])) → Right (Digits left value)
           fourth f =
               let va : digit_value f.0 < 16 = hex_value f.0 f.3 in
               let vb : digit_value f.1 < 16 = hex_value f.1 f.4 in
               let v : value < 4096 = omega arith in
               text_grows (Digits left value) (Digits 1 (value * 16 + digit_value c)) o (more_digits q left value c 2 f.5 h (omega arith) v) (λ rest. tt) (inr (inr (inr (inr (f.0, f.1, c, next _ f.2, f.3, f.4, h, refl, ap (λ n. n * 16 + digit_value c) f.6)))))
 
-          fifth : (a : ℕ) × (b : ℕ) × (d : ℕ) × (t.front ≡ 92 ∷ 117 ∷ a ∷ b ∷ d ∷ []) × (is_hex a ≡ true) × (is_hex b ≡ true) × (is_hex d ≡ true) × (left ≡ 1) × (value ≡ number 16 (a ∷ b ∷ d ∷ [])) → Right (Digits left value)
+          fifth : (a : ℕ) × (b : ℕ) × (d : ℕ) × (t.front ≡ 92 ∷ 117 ∷ a ∷ b ∷ d ∷ []) × (is_hex a ≡ true) × (is_hex b ≡ true) × (is_hex d ≡ true) × (left ≡ 1) × (value ≡ number_of 16 (a ∷ b ∷ d ∷ [])) → Right (Digits left value)
           fifth f =
               let va : digit_value f.0 < 16 = hex_value f.0 f.4 in
               let vb : digit_value f.1 < 16 = hex_value f.1 f.5 in

@@ -5,7 +5,7 @@ use Rattle.mb_token.specs.declared.word.Word.TheVariants.{Typeof}
 use Rattle.mb_token.specs.declared.mark.Mark.TheVariants.{TripleEqual, NotDoubleEqual, Arrow, GreaterEqual, PlusPlus, Plus, Equal}
 use Rattle.mb_lexer.specs.Tokens.{Content, name, soft, reserved, whole, text, mark}
 use Rattle.mb_lexer.specs.Reading.{Lexeme, other, number, Stop, end, fault, Reads}
-use Rattle.mb_lexer.specs.Machine.{begun, opening_of, whole_move, plain_move, escape_move, hex_move, code_move, mark_move}
+use Rattle.mb_lexer.specs.machine.Machine.{begun, opening_of, whole_move, plain_move, escape_move, hex_move, code_move, mark_move}
 use Rattle.mb_lexer.proofs.Sound.{sound}
 use Rattle.unicode_ident.proofs.Computing.{unicode_ident}
 

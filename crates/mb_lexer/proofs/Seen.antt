@@ -15,8 +15,9 @@ use Rattle.mb_token.specs.declared.mark.Mark.{Mark as MarkOf}
 use Rattle.mb_token.specs.declared.mark.Mark.TheVariants.{Equal}
 use Rattle.mb_lexer.specs.declared.state.State.{State}
 use Rattle.mb_lexer.specs.declared.fault.LexFault.{LexFault}
-use Rattle.mb_lexer.specs.Machine.{Machine, lexeme, ended, first_of_two}
-use Rattle.mb_lexer.specs.Answers.{Shows, AreSeen, Gains, given}
+use Rattle.mb_lexer.specs.machine.Machine.{Machine, lexeme, ended, first_of_two}
+use Rattle.mb_lexer.specs.Shown.{Shows, AreSeen}
+use Rattle.mb_lexer.specs.machine.Outcomes.{Gains, given}
 
 shows_added : (texts more : List (List ℕ)) (token : Token) (t : Content) → Shows texts token t → Shows (texts ++ more) token t
 shows_added texts more (Name id) (name us) h = slice_get-added texts more id.0 us h

@@ -11,7 +11,7 @@ use Rattle.mb_lexer.specs.declared.state.Move.TheVariants.{Goes, Ends, Fails}
 use Rattle.mb_lexer.specs.Characters.{is_line_end}
 use Rattle.mb_lexer.specs.Tokens.{mark, begins_comment, IsToken}
 use Rattle.mb_lexer.specs.Reading.{other, fault, kind_of}
-use Rattle.mb_lexer.specs.Machine.{fresh, run, move_of, mark_move, fault_kind}
+use Rattle.mb_lexer.specs.machine.Machine.{idle, run, move_of, mark_move, fault_kind}
 use Rattle.mb_lexer.proofs.Steps.{machine, Stops}
 use Rattle.mb_lexer.proofs.Worded.{run_fails}
 use Rattle.mb_lexer.proofs.Parting.{or_false}
@@ -104,11 +104,11 @@ pub mark_token : (k : Mark) (cs rest : List ℕ) → cs ≡ mark_text k → Long
 mark_token k cs rest e l = (e, ap (λ xs. mark_at (xs ++ rest)) e ∙ l.0, ap (λ xs. begins_comment (xs ++ rest)) e ∙ l.1)
 
 pub mark_ends : (k : Mark) (from to : ℕ) (line : Bool) (us : List ℕ) (before : Bool) (seen rest : List ℕ) → IsOpen (machine (InMark k) from to line us) before seen → Stops (machine (InMark k) from to line us) rest
-    → Told to false rest (run (fresh to false) rest) → Told from before (seen ++ rest) (run (machine (InMark k) from to line us) rest)
+    → Told to false rest (run (idle to false) rest) → Told from before (seen ++ rest) (run (machine (InMark k) from to line us) rest)
 mark_ends k from to line us before seen rest o s g =
     token_ends (machine (InMark k) from to line us) before seen rest (mark k) o (mark_token k seen rest o.means.0 (longest k rest from to line us s)) o.means.1 refl s g
 
-module _ (c : ℕ) (cs : List ℕ) (from to : ℕ) (line : Bool) (us : List ℕ) (before : Bool) (seen : List ℕ) (right : IsRight cs) (again : (at : ℕ) (line : Bool) → Told at line (c ∷ cs) (run (fresh at line) (c ∷ cs))) where
+module _ (c : ℕ) (cs : List ℕ) (from to : ℕ) (line : Bool) (us : List ℕ) (before : Bool) (seen : List ℕ) (right : IsRight cs) (again : (at : ℕ) (line : Bool) → Told at line (c ∷ cs) (run (idle at line) (c ∷ cs))) where
   -- the mark is right up to this character
   abbrev pub Right : State → Type 0
   Right s = Told from before (seen ++ c ∷ cs) (run (machine s from to line us) (c ∷ cs))

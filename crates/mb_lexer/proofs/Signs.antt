@@ -11,16 +11,16 @@ use Rattle.mb_lexer.specs.declared.state.Move.TheVariants.{Goes, Ends}
 use Rattle.std.specs.Char.{len_utf8}
 use Rattle.mb_lexer.specs.Characters.{width, begins}
 use Rattle.mb_lexer.specs.Tokens.{mark, begins_comment}
-use Rattle.mb_lexer.specs.Machine.{fresh, lexeme, after_tokens, run, begun, opening_of, mark_move}
+use Rattle.mb_lexer.specs.machine.Machine.{idle, lexeme, after_tokens, run, begun, opening_of, mark_move}
 use Rattle.mb_lexer.proofs.Steps.{machine, to_same, run_goes, begin_goes, run_ends, Stops}
 use Rattle.unicode_ident.proofs.Computing.{unicode_ident}
 
 -- the mark, and what comes after it
 abbrev pub Marked : Mark → List ℕ → ℕ → Bool → Type 0
-Marked k rest at line = run (fresh at line) (mark_text k ++ rest) ≡ after_tokens (lexeme (mark k) at (at + width (mark_text k)) line ∷ []) (run (fresh (at + width (mark_text k)) false) rest)
+Marked k rest at line = run (idle at line) (mark_text k ++ rest) ≡ after_tokens (lexeme (mark k) at (at + width (mark_text k)) line ∷ []) (run (idle (at + width (mark_text k)) false) rest)
 
 -- a mark that ends here
-done : (k : Mark) (rest : List ℕ) (at to : ℕ) (line : Bool) → Stops (machine (InMark k) at to line []) rest → run (machine (InMark k) at to line []) rest ≡ after_tokens (lexeme (mark k) at to line ∷ []) (run (fresh to false) rest)
+done : (k : Mark) (rest : List ℕ) (at to : ℕ) (line : Bool) → Stops (machine (InMark k) at to line []) rest → run (machine (InMark k) at to line []) rest ≡ after_tokens (lexeme (mark k) at to line ∷ []) (run (idle to false) rest)
 done k rest at to line s = run_ends (machine (InMark k) at to line []) (lexeme (mark k) at to line ∷ []) rest refl s
 
 never : (k : Mark) (at to : ℕ) (line : Bool) (rest : List ℕ) → ((c : ℕ) → mark_move k c ≡ Ends) → Stops (machine (InMark k) at to line []) rest
@@ -29,7 +29,7 @@ never k at to line (c ∷ cs) f = f c
 
 -- a mark of one character that no other begins with
 lone : (k : Mark) (c : ℕ) (rest : List ℕ) (at : ℕ) (line : Bool) → len_utf8 c ≡ 1 → begun c ≡ Goes (InMark k) → Stops (machine (InMark k) at (at + 1) line []) rest
-    → run (fresh at line) (c ∷ rest) ≡ after_tokens (lexeme (mark k) at (at + 1) line ∷ []) (run (fresh (at + 1) false) rest)
+    → run (idle at line) (c ∷ rest) ≡ after_tokens (lexeme (mark k) at (at + 1) line ∷ []) (run (idle (at + 1) false) rest)
 lone k c rest at line w b s =
     begin_goes at line c (InMark k) rest b
     ∙ to_same (InMark k) at _ _ line [] rest (ap (λ n. at + n) w)
@@ -37,7 +37,7 @@ lone k c rest at line w b s =
 
 -- a mark of two characters, of which the first is a mark too
 longer : (j k : Mark) (c d : ℕ) (rest : List ℕ) (at : ℕ) (line : Bool) → len_utf8 c ≡ 1 → len_utf8 d ≡ 1 → begun c ≡ Goes (InMark j) → mark_move j d ≡ Goes (InMark k) → ((e : ℕ) → mark_move k e ≡ Ends)
-    → run (fresh at line) (c ∷ d ∷ rest) ≡ after_tokens (lexeme (mark k) at (at + 2) line ∷ []) (run (fresh (at + 2) false) rest)
+    → run (idle at line) (c ∷ d ∷ rest) ≡ after_tokens (lexeme (mark k) at (at + 2) line ∷ []) (run (idle (at + 2) false) rest)
 longer j k c d rest at line w v b g f =
     begin_goes at line c (InMark j) (d ∷ rest) b
     ∙ run_goes (machine (InMark j) at (at + len_utf8 c) line []) d (InMark k) rest g

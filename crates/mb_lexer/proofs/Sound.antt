@@ -12,11 +12,11 @@ use Rattle.mb_lexer.specs.declared.state.Inside.TheVariants.{Plain}
 use Rattle.mb_lexer.specs.declared.state.Move.TheVariants.{Goes, Fails}
 use Rattle.mb_lexer.specs.Characters.{is_blank, is_line_end, starts_name, is_quote}
 use Rattle.std.specs.List.{flat_map}
-use Rattle.mb_lexer.specs.Strings.{number, spelled as piece_spelled}
+use Rattle.mb_lexer.specs.Strings.{number_of, piece_text}
 use Rattle.mb_lexer.specs.Parts.{space}
 use Rattle.mb_lexer.specs.Tokens.{text, is_whole}
 use Rattle.mb_lexer.specs.Reading.{other, fault, kind_of}
-use Rattle.mb_lexer.specs.Machine.{fresh, is_parting, run, begun, opening_of}
+use Rattle.mb_lexer.specs.machine.Machine.{idle, is_parting, run, begun, opening_of}
 use Rattle.mb_lexer.proofs.Classes.{begun-space, begun-name, begun-digit, begun-quote, at_numeral}
 use Rattle.mb_lexer.proofs.Steps.{machine, begin_goes, between_same}
 use Rattle.mb_lexer.proofs.Parting.{or_if}
@@ -49,18 +49,18 @@ begun_fails c s n d q o = simp (s, n, d, q, o)
 one_digit : (c : ℕ) → is_digit c 10 ≡ true → is_whole (c ∷ []) ≡ true
 one_digit c h =
     let v : digit_value c < 10 = ltb-true _ _ h in
-    let l : number 10 (c ∷ []) ≤ 9007199254740991 = omega arith in
+    let l : number_of 10 (c ∷ []) ≤ 9007199254740991 = omega arith in
     and_from _ _ (and_from _ _ (and_from _ _ h refl) (or_right _ _ refl)) (le-leb _ _ l)
 
 module _ (c : ℕ) (cs : List ℕ) (right : IsRight cs) where
   -- what begins with this character is told
   abbrev Begins : Type 0
-  Begins = (at : ℕ) (line : Bool) → Told at line (c ∷ cs) (run (fresh at line) (c ∷ cs))
+  Begins = (at : ℕ) (line : Bool) → Told at line (c ∷ cs) (run (idle at line) (c ∷ cs))
 
   space_begins : (is_blank c || is_line_end c) ≡ true → Begins
   space_begins h at line =
-      told_same at line (c ∷ cs) (c ∷ cs) (run (fresh (at + len_utf8 c) (cond (is_line_end c) true line)) cs) _ refl (sym (begin_goes at line c Between cs (begun-space c h) ∙ between_same at (at + len_utf8 c) (cond (is_line_end c) true line) [] cs))
-      (part_done at (at + len_utf8 c) line (cond (is_line_end c) true line) (c ∷ []) cs (space c) (run (fresh (at + len_utf8 c) (cond (is_line_end c) true line)) cs) (let e : at + len_utf8 c ≡ at + (len_utf8 c + 0) = omega arith in e) refl h (or_if line (is_line_end c)) (right.between (at + len_utf8 c) (cond (is_line_end c) true line)))
+      told_same at line (c ∷ cs) (c ∷ cs) (run (idle (at + len_utf8 c) (cond (is_line_end c) true line)) cs) _ refl (sym (begin_goes at line c Between cs (begun-space c h) ∙ between_same at (at + len_utf8 c) (cond (is_line_end c) true line) [] cs))
+      (part_done at (at + len_utf8 c) line (cond (is_line_end c) true line) (c ∷ []) cs (space c) (run (idle (at + len_utf8 c) (cond (is_line_end c) true line)) cs) (let e : at + len_utf8 c ≡ at + (len_utf8 c + 0) = omega arith in e) refl h (or_if line (is_line_end c)) (right.between (at + len_utf8 c) (cond (is_line_end c) true line)))
 
   name_begins : starts_name c ≡ true → Begins
   name_begins h at line = begins_adding at line c c InName cs right (begun-name c h) (sym (append-nil (encode_utf16 c)), and_from _ _ h refl, refl)
@@ -84,15 +84,15 @@ module _ (c : ℕ) (cs : List ℕ) (right : IsRight cs) where
 
   -- what a character of no other class begins
   abbrev Other : ℕ → Type 0
-  Other x = (is_blank x || is_line_end x) ≡ false → starts_name x ≡ false → is_digit x 10 ≡ false → is_quote x ≡ false → (at : ℕ) (line : Bool) → Told at line (x ∷ cs) (run (fresh at line) (x ∷ cs))
+  Other x = (is_blank x || is_line_end x) ≡ false → starts_name x ≡ false → is_digit x 10 ≡ false → is_quote x ≡ false → (at : ℕ) (line : Bool) → Told at line (x ∷ cs) (run (idle at line) (x ∷ cs))
 
   mark_begins : (x : ℕ) (s : State) → begun x ≡ Goes s → is_parting s ≡ false → ((line : Bool) → Means s line (cond (is_parting s && is_line_end x) true line) [] (x ∷ [])) → Other x
   mark_begins x s h p m a b d e at line = begins_with at line x s cs right h p (m line)
 
   nothing_begins : (x : ℕ) → opening_of x ≡ None → Other x
   nothing_begins x o s n d q at line =
-      let h : run (fresh at line) (x ∷ cs) ≡ record { tokens = []; stop = fault other at } = rw (begun_fails x s n d q o) refl in
-      told_same at line (x ∷ cs) (x ∷ cs) (record { tokens = []; stop = fault other at }) (run (fresh at line) (x ∷ cs)) refl (sym h)
+      let h : run (idle at line) (x ∷ cs) ≡ record { tokens = []; stop = fault other at } = rw (begun_fails x s n d q o) refl in
+      told_same at line (x ∷ cs) (x ∷ cs) (record { tokens = []; stop = fault other at }) (run (idle at line) (x ∷ cs)) refl (sym h)
       ([], x ∷ cs, record { whole = refl; each = refl }, sym (add-zero at), faulty other x cs at line h (simp d))
 
   others_begin : Other c
@@ -141,7 +141,7 @@ module _ (c : ℕ) (cs : List ℕ) (right : IsRight cs) where
   step_told DoubleEqual from to line us before seen o = pair_step Equal DoubleEqual 61 equal_equal from to line us before seen o.place o.means.0 o.means.1 o.means.2 c cs right o begins_told
   step_told NotEqual from to line us before seen o = pair_step Not NotEqual 33 not_equal from to line us before seen o.place o.means.0 o.means.1 o.means.2 c cs right o begins_told
 
-nothing_left : (at : ℕ) (line : Bool) → Told at line [] (run (fresh at line) [])
+nothing_left : (at : ℕ) (line : Bool) → Told at line [] (run (idle at line) [])
 nothing_left at line = ([], record { whole = refl; each = refl })
 
 quote_first : (q : ℕ) → is_quote q ≡ true → other ≡ kind_of q
@@ -152,7 +152,7 @@ end_told : (s : State) (from to : ℕ) (line : Bool) (us : List ℕ) (before : B
 end_told Between from to line us before seen o = absurd o.means
 end_told InName from to line us before seen o = name_ends from to line us before seen [] o refl (nothing_left to false)
 end_told (InWhole n) from to line us before seen o = whole_done n from to line us before seen [] o refl (nothing_left to false)
-end_told (InText q i) from to line us before seen o = let t : Quoting q i us seen = o.means.0 in fault_here (machine (InText q i) from to line us) before seen [] other q (flat_map piece_spelled t.pieces ++ t.front) o t.seen_is refl (quote_first q t.quoted)
+end_told (InText q i) from to line us before seen o = let t : Quoting q i us seen = o.means.0 in fault_here (machine (InText q i) from to line us) before seen [] other q (flat_map piece_text t.pieces ++ t.front) o t.seen_is refl (quote_first q t.quoted)
 end_told AfterText from to line us before seen o = token_ends (machine AfterText from to line us) before seen [] (text us) o o.means.0 o.means.1 refl tt (nothing_left to false)
 end_told InLineComment from to line us before seen o = line_ends from to line us before seen [] o tt (nothing_left to line)
 end_told (InBlockComment star) from to line us before seen o = let t : Commented star before line seen = o.means in fault_here (machine (InBlockComment star) from to line us) before seen [] other 47 (42 ∷ t.body) o t.seen_is refl refl

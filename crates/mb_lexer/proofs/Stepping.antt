@@ -8,8 +8,8 @@ use Rattle.mb_lexer.specs.declared.fault.LexFault.{LexFault}
 use Rattle.mb_lexer.specs.declared.state.Move.{Move}
 use Rattle.mb_lexer.specs.declared.state.Move.TheVariants.{Goes, Adds, Splits, Ends, Fails}
 use Rattle.mb_lexer.specs.Reading.{Lexeme, Kind}
-use Rattle.mb_lexer.specs.Machine.{Machine, ended, moved, begun_after, step, step_by, move_of, begun}
-use Rattle.mb_lexer.specs.Answers.{Gains, given}
+use Rattle.mb_lexer.specs.machine.Machine.{Machine, ended, moved, begun_after, step, step_by, move_of, begun}
+use Rattle.mb_lexer.specs.machine.Outcomes.{Gains, given}
 use Rattle.mb_lexer.proofs.Seen.{gains_more}
 use Rattle.mb_lexer.proofs.Fit.{begun_quiet}
 

@@ -6,7 +6,7 @@ use lib.Utf8.{encode, encodes}
 use Rattle.std.proofs.lemmas.Bool.{and_parts, le-leb, lt-leb, lt-ltb, le-ltb, cases_lt, and_right}
 use Rattle.std.proofs.lemmas.Str.{length-encode, encodes-chars}
 use Rattle.mb_lexer.specs.Characters.{width}
-use Rattle.mb_lexer.specs.Parts.{Part, spelled, is_part, are_parts}
+use Rattle.mb_lexer.specs.Parts.{Part, part_text, is_part, are_parts}
 use Rattle.mb_lexer.specs.Reading.{Lexeme, end, Reads, HasTokens}
 use Rattle.mb_lexer.specs.Stretches.{Stretch, token, part, holders, tokens_of, Stand, Tiles}
 use Rattle.mb_lexer.proofs.Parting.{width-append}
@@ -19,7 +19,7 @@ width-bytes (c ∷ cs) = let e : width cs ≡ length (encodes cs) = width-bytes 
 abbrev Follow : ℕ → List Stretch → ℕ → Type 0
 Follow at [] to = at ≡ to
 Follow at (token t ∷ ss) to = (t.from ≡ at) × (t.from ≤ t.to) × Follow t.to ss to
-Follow at (part n p ∷ ss) to = (n ≡ at) × Follow (n + width (spelled p)) ss to
+Follow at (part n p ∷ ss) to = (n ≡ at) × Follow (n + width (part_text p)) ss to
 
 one_more : (k from to n : ℕ) (b : Bool) → b ≡ (nat_le from k && nat_lt k to) → ((k < from) ⊎ (to ≤ k) → cond b 1 0 + n ≡ n) × (from ≤ k → k < to → cond b 1 0 + n ≡ 1 + n)
 one_more k from to n b e = (
@@ -36,13 +36,13 @@ apart_from k from to n o = (one_more k from to n _ refl).0 o
 grows : (at : ℕ) (ss : List Stretch) (to : ℕ) → Follow at ss to → at ≤ to
 grows at [] to h = omega arith
 grows at (token t ∷ ss) to h = let g : t.to ≤ to = grows t.to ss to h.2 in let a : t.from ≡ at = h.0 in let b : t.from ≤ t.to = h.1 in omega arith
-grows at (part n p ∷ ss) to h = let g : n + width (spelled p) ≤ to = grows (n + width (spelled p)) ss to h.1 in let a : n ≡ at = h.0 in omega arith
+grows at (part n p ∷ ss) to h = let g : n + width (part_text p) ≤ to = grows (n + width (part_text p)) ss to h.1 in let a : n ≡ at = h.0 in omega arith
 
 -- none before the first
 none_before : (k at : ℕ) (ss : List Stretch) (to : ℕ) → Follow at ss to → k < at → holders k ss ≡ 0
 none_before k at [] to h l = refl
 none_before k at (token t ∷ ss) to h l = let a : t.from ≡ at = h.0 in let b : t.from ≤ t.to = h.1 in apart_from k t.from t.to (holders k ss) (inl (omega arith)) ∙ none_before k t.to ss to h.2 (omega arith)
-none_before k at (part n p ∷ ss) to h l = let a : n ≡ at = h.0 in apart_from k n (n + width (spelled p)) (holders k ss) (inl (omega arith)) ∙ none_before k (n + width (spelled p)) ss to h.1 (omega arith)
+none_before k at (part n p ∷ ss) to h l = let a : n ≡ at = h.0 in apart_from k n (n + width (part_text p)) (holders k ss) (inl (omega arith)) ∙ none_before k (n + width (part_text p)) ss to h.1 (omega arith)
 
 -- and one between the first and the end
 one_within : (k at : ℕ) (ss : List Stretch) (to : ℕ) → Follow at ss to → at ≤ k → k < to → holders k ss ≡ 1
@@ -54,8 +54,8 @@ one_within k at (token t ∷ ss) to h a l =
     (λ (b : t.to ≤ k). apart_from k t.from t.to (holders k ss) (inr b) ∙ one_within k t.to ss to h.2 b l) (cases_lt k t.to)
 one_within k at (part n p ∷ ss) to h a l =
     let f : n ≡ at = h.0 in
-    ⊎_elim (λ (b : k < n + width (spelled p)). held k n (n + width (spelled p)) (holders k ss) (omega arith) b ∙ ap (λ n. 1 + n) (none_before k (n + width (spelled p)) ss to h.1 b))
-    (λ (b : n + width (spelled p) ≤ k). apart_from k n (n + width (spelled p)) (holders k ss) (inr b) ∙ one_within k (n + width (spelled p)) ss to h.1 b l) (cases_lt k (n + width (spelled p)))
+    ⊎_elim (λ (b : k < n + width (part_text p)). held k n (n + width (part_text p)) (holders k ss) (omega arith) b ∙ ap (λ n. 1 + n) (none_before k (n + width (part_text p)) ss to h.1 b))
+    (λ (b : n + width (part_text p) ≤ k). apart_from k n (n + width (part_text p)) (holders k ss) (inr b) ∙ one_within k (n + width (part_text p)) ss to h.1 b l) (cases_lt k (n + width (part_text p)))
 
 -- a row of stretches for characters from an offset on
 record Row (at : ℕ) (cs : List ℕ) (ts : List Lexeme) : Type 0 where
@@ -65,21 +65,21 @@ record Row (at : ℕ) (cs : List ℕ) (ts : List Lexeme) : Type 0 where
   follow : Follow at stretches (at + width cs)
 
 -- parts before a row
-with_parts : (ps : List Part) (at : ℕ) (rest : List ℕ) (ts : List Lexeme) → are_parts ps rest ≡ true → Row (at + width (flat_map spelled ps)) rest ts → Row at (flat_map spelled ps ++ rest) ts
+with_parts : (ps : List Part) (at : ℕ) (rest : List ℕ) (ts : List Lexeme) → are_parts ps rest ≡ true → Row (at + width (flat_map part_text ps)) rest ts → Row at (flat_map part_text ps ++ rest) ts
 with_parts [] at rest ts h r = record { stretches = r.stretches; stand = r.stand; tokens = r.tokens; follow = subst (λ n. Follow n r.stretches (n + width rest)) (add-zero at) r.follow }
 with_parts (p ∷ ps) at rest ts h r =
-    let g : (is_part p (flat_map spelled ps ++ rest) ≡ true) × (are_parts ps rest ≡ true) = and_parts _ _ h in
-    let w : width (spelled p ++ flat_map spelled ps) ≡ width (spelled p) + width (flat_map spelled ps) = width-append (spelled p) (flat_map spelled ps) in
-    let n : at + width (spelled p ++ flat_map spelled ps) ≡ at + width (spelled p) + width (flat_map spelled ps) = omega arith in
-    let s : Row (at + width (spelled p)) (flat_map spelled ps ++ rest) ts = with_parts ps (at + width (spelled p)) rest ts g.1 (subst (λ k. Row k rest ts) n r) in
-    let e : (spelled p ++ flat_map spelled ps) ++ rest ≡ spelled p ++ (flat_map spelled ps ++ rest) = append_assoc (spelled p) (flat_map spelled ps) rest in
-    let v : width (spelled p ++ (flat_map spelled ps ++ rest)) ≡ width (spelled p) + width (flat_map spelled ps ++ rest) = width-append (spelled p) (flat_map spelled ps ++ rest) in
-    let to : at + width (spelled p) + width (flat_map spelled ps ++ rest) ≡ at + width ((spelled p ++ flat_map spelled ps) ++ rest) = rw e (omega arith) in
+    let g : (is_part p (flat_map part_text ps ++ rest) ≡ true) × (are_parts ps rest ≡ true) = and_parts _ _ h in
+    let w : width (part_text p ++ flat_map part_text ps) ≡ width (part_text p) + width (flat_map part_text ps) = width-append (part_text p) (flat_map part_text ps) in
+    let n : at + width (part_text p ++ flat_map part_text ps) ≡ at + width (part_text p) + width (flat_map part_text ps) = omega arith in
+    let s : Row (at + width (part_text p)) (flat_map part_text ps ++ rest) ts = with_parts ps (at + width (part_text p)) rest ts g.1 (subst (λ k. Row k rest ts) n r) in
+    let e : (part_text p ++ flat_map part_text ps) ++ rest ≡ part_text p ++ (flat_map part_text ps ++ rest) = append_assoc (part_text p) (flat_map part_text ps) rest in
+    let v : width (part_text p ++ (flat_map part_text ps ++ rest)) ≡ width (part_text p) + width (flat_map part_text ps ++ rest) = width-append (part_text p) (flat_map part_text ps ++ rest) in
+    let to : at + width (part_text p) + width (flat_map part_text ps ++ rest) ≡ at + width ((part_text p ++ flat_map part_text ps) ++ rest) = rw e (omega arith) in
     record {
       stretches = part at p ∷ s.stretches;
-      stand = (flat_map spelled ps ++ rest, e, g.0, s.stand);
+      stand = (flat_map part_text ps ++ rest, e, g.0, s.stand);
       tokens = s.tokens;
-      follow = (refl, subst (λ k. Follow (at + width (spelled p)) s.stretches k) to s.follow);
+      follow = (refl, subst (λ k. Follow (at + width (part_text p)) s.stretches k) to s.follow);
     }
 
 -- a text with tokens is a row
@@ -87,7 +87,7 @@ row : (ts : List Lexeme) (at : ℕ) (line : Bool) (cs : List ℕ) → Reads at l
 row [] at line cs g = subst (λ xs. Row at xs []) (sym (g.1).whole) (with_parts g.0 at [] [] (g.1).each (record { stretches = []; stand = refl; tokens = refl; follow = sym (add-zero _) }))
 row (t ∷ ts) at line cs g =
     let r : Row t.to g.2 ts = row ts t.to false g.2 g.8 in
-    let from : t.from ≡ at + width (flat_map spelled g.0) = g.5 in
+    let from : t.from ≡ at + width (flat_map part_text g.0) = g.5 in
     let to : t.to ≡ t.from + width g.1 = g.6 in
     let w : width (g.1 ++ g.2) ≡ width g.1 + width g.2 = width-append g.1 g.2 in
     subst (λ xs. Row at xs (t ∷ ts)) (sym (g.3).whole) (with_parts g.0 at (g.1 ++ g.2) (t ∷ ts) (g.3).each (record {

@@ -13,10 +13,10 @@ use Rattle.mb_token.specs.Words.{word_of, soft_of}
 use Rattle.mb_lexer.specs.declared.state.State.TheVariants.{InName, InWhole}
 use Rattle.mb_lexer.specs.declared.state.Move.TheVariants.{Fails}
 use Rattle.mb_lexer.specs.Characters.{starts_name, continues_name, continues_number, begins}
-use Rattle.mb_lexer.specs.Strings.{number_from, number}
+use Rattle.mb_lexer.specs.Strings.{number_from, number_of}
 use Rattle.mb_lexer.specs.Tokens.{whole, IsToken, IsName, named, word_or_name, soft_or_name, units_of, is_name, is_whole}
 use Rattle.mb_lexer.specs.Reading.{number as number_kind, fault, kind_of}
-use Rattle.mb_lexer.specs.Machine.{Machine, fresh, move_of, fault_kind, run, whole_move}
+use Rattle.mb_lexer.specs.machine.Machine.{Machine, idle, move_of, fault_kind, run, whole_move}
 use Rattle.mb_lexer.proofs.Steps.{machine}
 use Rattle.mb_lexer.proofs.Words.{name_stops, whole_stops, whole_goes, empty_list}
 use Rattle.mb_lexer.proofs.Open.{Told, IsOpen, IsRight, goes_on, adds_on}
@@ -35,7 +35,7 @@ pub named_token : (us cs rest : List ℕ) → IsName us cs rest → IsToken (nam
 named_token us cs rest n = named_word us cs rest (word_of us) refl n
 
 pub name_ends : (from to : ℕ) (line : Bool) (us : List ℕ) (before : Bool) (seen rest : List ℕ) → IsOpen (machine InName from to line us) before seen → begins continues_name rest ≡ false
-    → Told to false rest (run (fresh to false) rest) → Told from before (seen ++ rest) (run (machine InName from to line us) rest)
+    → Told to false rest (run (idle to false) rest) → Told from before (seen ++ rest) (run (machine InName from to line us) rest)
 name_ends from to line us before seen rest o b g =
     token_ends (machine InName from to line us) before seen rest (named us) o
     (named_token us seen rest (record { form = o.means.1; units = o.means.0; ends = b })) o.means.2 refl (name_stops (machine InName from to line us) rest refl b) g
@@ -51,7 +51,7 @@ name_push (x ∷ xs) c h e = let q : (starts_name x ≡ true) × (list_all conti
 pub units-push : (seen : List ℕ) (c : ℕ) → units_of (seen ++ c ∷ []) ≡ units_of seen ++ encode_utf16 c
 units-push seen c = flat_map-append encode_utf16 seen (c ∷ []) ∙ ap (λ xs. units_of seen ++ xs) (append-nil (encode_utf16 c))
 
-pub name_step : (c : ℕ) (cs : List ℕ) (from to : ℕ) (line : Bool) (us : List ℕ) (before : Bool) (seen : List ℕ) → IsRight cs → ((at : ℕ) (line : Bool) → Told at line (c ∷ cs) (run (fresh at line) (c ∷ cs)))
+pub name_step : (c : ℕ) (cs : List ℕ) (from to : ℕ) (line : Bool) (us : List ℕ) (before : Bool) (seen : List ℕ) → IsRight cs → ((at : ℕ) (line : Bool) → Told at line (c ∷ cs) (run (idle at line) (c ∷ cs)))
     → IsOpen (machine InName from to line us) before seen → Told from before (seen ++ c ∷ cs) (run (machine InName from to line us) (c ∷ cs))
 name_step c cs from to line us before seen right again o =
     ⊎_elim
@@ -61,7 +61,7 @@ name_step c cs from to line us before seen right again o =
     (cases_Bool (continues_name c))
 
 pub whole_done : (n from to : ℕ) (line : Bool) (us : List ℕ) (before : Bool) (seen rest : List ℕ) → IsOpen (machine (InWhole n) from to line us) before seen → begins continues_number rest ≡ false
-    → Told to false rest (run (fresh to false) rest) → Told from before (seen ++ rest) (run (machine (InWhole n) from to line us) rest)
+    → Told to false rest (run (idle to false) rest) → Told from before (seen ++ rest) (run (machine (InWhole n) from to line us) rest)
 whole_done n from to line us before seen rest o b g =
     token_ends (machine (InWhole n) from to line us) before seen rest (whole n) o (o.means.0, o.means.1, b) o.means.2 refl (whole_stops (machine (InWhole n) from to line us) n rest refl b) g
 
@@ -77,23 +77,23 @@ Whole (x ∷ xs) = (is_digit x 10 ≡ true) × (list_all (λ d. is_digit d 10) x
 pub Whole-from : (seen : List ℕ) → is_whole seen ≡ true → Whole seen
 Whole-from [] h = absurd (true≢false (sym h))
 Whole-from (x ∷ xs) h =
-    let p : ((list_all (λ d. is_digit d 10) (x ∷ xs) && (not (x == 48) || length xs == 0)) ≡ true) × (nat_le (number 10 (x ∷ xs)) 9007199254740991 ≡ true) = and_parts _ _ h in
+    let p : ((list_all (λ d. is_digit d 10) (x ∷ xs) && (not (x == 48) || length xs == 0)) ≡ true) × (nat_le (number_of 10 (x ∷ xs)) 9007199254740991 ≡ true) = and_parts _ _ h in
     let q : (list_all (λ d. is_digit d 10) (x ∷ xs) ≡ true) × ((not (x == 48) || length xs == 0) ≡ true) = and_parts _ _ p.0 in
     let r : (is_digit x 10 ≡ true) × (list_all (λ d. is_digit d 10) xs ≡ true) = and_parts _ _ q.0 in
     (r.0, r.1, ⊎_elim (λ (a : not (x == 48) ≡ true). inl a) (λ (b : (length xs == 0) ≡ true). inr (empty_list xs (eqb-true _ _ b))) (or_cases _ _ q.1))
 
-whole_push : (seen : List ℕ) (c n : ℕ) → Whole seen → n ≡ number 10 seen → 0 < n → is_digit c 10 ≡ true → n * 10 + digit_value c ≤ 9007199254740991 → is_whole (seen ++ c ∷ []) ≡ true
+whole_push : (seen : List ℕ) (c n : ℕ) → Whole seen → n ≡ number_of 10 seen → 0 < n → is_digit c 10 ≡ true → n * 10 + digit_value c ≤ 9007199254740991 → is_whole (seen ++ c ∷ []) ≡ true
 whole_push [] c n h e z d l = absurd h
 whole_push (x ∷ xs) c n h e z d l =
-    let m : number 10 ((x ∷ xs) ++ c ∷ []) ≡ n * 10 + digit_value c = number_push 10 0 (x ∷ xs) c ∙ ap (λ k. k * 10 + digit_value c) (sym e) in
-    let lim : number 10 ((x ∷ xs) ++ c ∷ []) ≤ 9007199254740991 = omega arith in
-    and_from _ _ (and_from _ _ (and_from _ _ h.0 (list_all-push (λ d. is_digit d 10) xs c h.1 d)) (or_left _ _ (⊎_elim (λ (a : not (x == 48) ≡ true). a) (λ (b : xs ≡ []). not_from_false _ (first b)) h.2))) (le-leb (number 10 ((x ∷ xs) ++ c ∷ [])) 9007199254740991 lim)
+    let m : number_of 10 ((x ∷ xs) ++ c ∷ []) ≡ n * 10 + digit_value c = number_push 10 0 (x ∷ xs) c ∙ ap (λ k. k * 10 + digit_value c) (sym e) in
+    let lim : number_of 10 ((x ∷ xs) ++ c ∷ []) ≤ 9007199254740991 = omega arith in
+    and_from _ _ (and_from _ _ (and_from _ _ h.0 (list_all-push (λ d. is_digit d 10) xs c h.1 d)) (or_left _ _ (⊎_elim (λ (a : not (x == 48) ≡ true). a) (λ (b : xs ≡ []). not_from_false _ (first b)) h.2))) (le-leb (number_of 10 ((x ∷ xs) ++ c ∷ [])) 9007199254740991 lim)
   where
     first : xs ≡ [] → (x == 48) ≡ false
     first b = ⊎_elim (λ (y : (x == 48) ≡ true). absurd (zero_first b (eqb-true x 48 y))) (λ (y : (x == 48) ≡ false). y) (cases_Bool (x == 48))
       where
         zero_first : xs ≡ [] → x ≡ 48 → ⊥
-        zero_first b y = let k : n ≡ 0 = e ∙ (λ i. number 10 (y i ∷ b i)) in omega arith
+        zero_first b y = let k : n ≡ 0 = e ∙ (λ i. number_of 10 (y i ∷ b i)) in omega arith
 
 first_digit : (seen : List ℕ) → Whole seen → (x : ℕ) × (xs : List ℕ) × (seen ≡ x ∷ xs) × (number_kind ≡ kind_of x)
 first_digit [] h = absurd h
@@ -110,7 +110,7 @@ whole_fails : (n c : ℕ) → is_digit c 10 ≡ false → (c == 46 || continues_
 unfolding whole_move
 whole_fails n c h e = simp (h, e)
 
-pub whole_step : (c : ℕ) (cs : List ℕ) (n from to : ℕ) (line : Bool) (us : List ℕ) (before : Bool) (seen : List ℕ) → IsRight cs → ((at : ℕ) (line : Bool) → Told at line (c ∷ cs) (run (fresh at line) (c ∷ cs)))
+pub whole_step : (c : ℕ) (cs : List ℕ) (n from to : ℕ) (line : Bool) (us : List ℕ) (before : Bool) (seen : List ℕ) → IsRight cs → ((at : ℕ) (line : Bool) → Told at line (c ∷ cs) (run (idle at line) (c ∷ cs)))
     → IsOpen (machine (InWhole n) from to line us) before seen → Told from before (seen ++ c ∷ cs) (run (machine (InWhole n) from to line us) (c ∷ cs))
 whole_step c cs n from to line us before seen right again o =
     ⊎_elim

@@ -10,9 +10,9 @@ use Rattle.std.proofs.lemmas.Str.{digit_value_digit}
 use Rattle.mb_lexer.specs.declared.state.State.TheVariants.{InName, InWhole}
 use Rattle.mb_lexer.specs.declared.state.Move.TheVariants.{Goes, Ends}
 use Rattle.mb_lexer.specs.Characters.{starts_name, continues_name, continues_number, begins, width}
-use Rattle.mb_lexer.specs.Strings.{number_from, number}
+use Rattle.mb_lexer.specs.Strings.{number_from, number_of}
 use Rattle.mb_lexer.specs.Tokens.{named, units_of, is_whole, IsName, whole}
-use Rattle.mb_lexer.specs.Machine.{Machine, fresh, lexeme, after_tokens, run, move_of, whole_move}
+use Rattle.mb_lexer.specs.machine.Machine.{Machine, idle, lexeme, after_tokens, run, move_of, whole_move}
 use Rattle.mb_lexer.proofs.Classes.{begun-name, begun-digit, digit_range}
 use Rattle.mb_lexer.proofs.Steps.{machine, to_same, run_goes, run_adds, begin_goes, begin_adds, run_ends, Stops}
 
@@ -32,7 +32,7 @@ name_stops m (c ∷ cs) e h = rw e (simp h)
 
 -- a name, and what comes after it
 pub name_run : (us cs rest : List ℕ) (at : ℕ) (line : Bool) → IsName us cs rest
-    → run (fresh at line) (cs ++ rest) ≡ after_tokens (lexeme (named us) at (at + width cs) line ∷ []) (run (fresh (at + width cs) false) rest)
+    → run (idle at line) (cs ++ rest) ≡ after_tokens (lexeme (named us) at (at + width cs) line ∷ []) (run (idle (at + width cs) false) rest)
 name_run us [] rest at line n = absurd (true≢false (sym n.form))
 name_run us (c ∷ cs) rest at line n =
     let p : (starts_name c ≡ true) × (list_all continues_name cs ≡ true) = and_parts _ _ n.form in
@@ -40,7 +40,7 @@ name_run us (c ∷ cs) rest at line n =
     begin_adds at line c c InName (cs ++ rest) (begun-name c p.0)
     ∙ in_name cs rest at (at + len_utf8 c) line (encode_utf16 c) p.1
     ∙ run_ends m (lexeme (named (encode_utf16 c ++ units_of cs)) at (at + len_utf8 c + width cs) line ∷ []) rest refl (name_stops m rest refl n.ends)
-    ∙ (λ i. after_tokens (lexeme (named (sym n.units i)) at (add_assoc at (len_utf8 c) (width cs) i) line ∷ []) (run (fresh (add_assoc at (len_utf8 c) (width cs) i) false) rest))
+    ∙ (λ i. after_tokens (lexeme (named (sym n.units i)) at (add_assoc at (len_utf8 c) (width cs) i) line ∷ []) (run (idle (add_assoc at (len_utf8 c) (width cs) i) false) rest))
 
 -- more digits make a number no less
 pub number_grows : (ds : List ℕ) (n : ℕ) → n ≤ number_from 10 n ds
@@ -87,20 +87,20 @@ empty_list (y ∷ ys) z = absurd (omega arith)
 
 -- a number, and what comes after it
 pub whole_run : (cs rest : List ℕ) (at : ℕ) (line : Bool) → is_whole cs ≡ true → begins continues_number rest ≡ false
-    → run (fresh at line) (cs ++ rest) ≡ after_tokens (lexeme (whole (number 10 cs)) at (at + width cs) line ∷ []) (run (fresh (at + width cs) false) rest)
+    → run (idle at line) (cs ++ rest) ≡ after_tokens (lexeme (whole (number_of 10 cs)) at (at + width cs) line ∷ []) (run (idle (at + width cs) false) rest)
 whole_run [] rest at line h e = absurd (true≢false (sym h))
 whole_run (c ∷ cs) rest at line h e =
-    let p : ((list_all (λ d. is_digit d 10) (c ∷ cs) && (not (c == 48) || length cs == 0)) ≡ true) × (nat_le (number 10 (c ∷ cs)) 9007199254740991 ≡ true) = and_parts _ _ h in
+    let p : ((list_all (λ d. is_digit d 10) (c ∷ cs) && (not (c == 48) || length cs == 0)) ≡ true) × (nat_le (number_of 10 (c ∷ cs)) 9007199254740991 ≡ true) = and_parts _ _ h in
     let q : (list_all (λ d. is_digit d 10) (c ∷ cs) ≡ true) × ((not (c == 48) || length cs == 0) ≡ true) = and_parts _ _ p.0 in
     let r : (is_digit c 10 ≡ true) × (list_all (λ d. is_digit d 10) cs ≡ true) = and_parts _ _ q.0 in
     let same : 0 * 10 + digit_value c ≡ digit_value c = zero-add (digit_value c) in
-    let n : ℕ = number 10 (c ∷ cs) in
+    let n : ℕ = number_of 10 (c ∷ cs) in
     let m : Machine = machine (InWhole (number_from 10 (digit_value c) cs)) at (at + len_utf8 c + width cs) line [] in
     let few : number_from 10 (digit_value c) cs ≤ 9007199254740991 = rw same at (leb-true n 9007199254740991 p.1) in
     begin_goes at line c (InWhole (digit_value c)) (cs ++ rest) (begun-digit c r.0)
     ∙ in_whole cs rest (digit_value c) at (at + len_utf8 c) line [] r.1 (leading r.0 (or_cases _ _ q.1)) few
     ∙ run_ends m (lexeme (whole (number_from 10 (digit_value c) cs)) at (at + len_utf8 c + width cs) line ∷ []) rest refl (whole_stops m (number_from 10 (digit_value c) cs) rest refl e)
-    ∙ (λ i. after_tokens (lexeme (whole (number_from 10 (sym same i) cs)) at (add_assoc at (len_utf8 c) (width cs) i) line ∷ []) (run (fresh (add_assoc at (len_utf8 c) (width cs) i) false) rest))
+    ∙ (λ i. after_tokens (lexeme (whole (number_from 10 (sym same i) cs)) at (add_assoc at (len_utf8 c) (width cs) i) line ∷ []) (run (idle (add_assoc at (len_utf8 c) (width cs) i) false) rest))
   where
     leading : is_digit c 10 ≡ true → (not (c == 48) ≡ true) ⊎ ((length cs == 0) ≡ true) → (0 < digit_value c) ⊎ (cs ≡ [])
     leading d z = ⊎_elim (λ (x : not (c == 48) ≡ true). inl (positive_digit c d (not-true _ x))) (λ (x : (length cs == 0) ≡ true). inr (empty_list cs (eqb-true _ _ x))) z

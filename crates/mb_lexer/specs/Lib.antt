@@ -3,6 +3,7 @@ pub mod Strings
 pub mod Parts
 pub mod Tokens
 pub mod Reading
-pub mod Machine
-pub mod Answers
+pub mod Shown
 pub mod Stretches
+pub mod Feeding
+pub mod machine

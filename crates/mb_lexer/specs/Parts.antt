@@ -12,10 +12,10 @@ pub data Part : Type 0 where
   block_comment : List ℕ → Part
 
 -- the characters of a part
-abbrev pub spelled : Part → List ℕ
-spelled (space c) = c ∷ []
-spelled (line_comment cs) = 47 ∷ 47 ∷ cs
-spelled (block_comment cs) = 47 ∷ 42 ∷ (cs ++ 42 ∷ 47 ∷ [])
+abbrev pub part_text : Part → List ℕ
+part_text (space c) = c ∷ []
+part_text (line_comment cs) = 47 ∷ 47 ∷ cs
+part_text (block_comment cs) = 47 ∷ 42 ∷ (cs ++ 42 ∷ 47 ∷ [])
 
 -- whether `*/` stands somewhere
 abbrev pub has_close : List ℕ → Bool
@@ -31,7 +31,7 @@ is_part (block_comment cs) rest = not (has_close cs)
 -- each of the parts stands before these characters
 abbrev pub are_parts : List Part → List ℕ → Bool
 are_parts [] rest = true
-are_parts (p ∷ ps) rest = is_part p (flat_map spelled ps ++ rest) && are_parts ps rest
+are_parts (p ∷ ps) rest = is_part p (flat_map part_text ps ++ rest) && are_parts ps rest
 
 -- whether a part has a line end
 abbrev pub has_line : Part → Bool

@@ -9,7 +9,7 @@ use Rattle.mb_token.specs.declared.mark.Mark.{Mark}
 use Rattle.mb_token.specs.Words.{word_of, soft_of}
 use Rattle.mb_token.specs.Marks.{mark_text, mark_at}
 use Rattle.mb_lexer.specs.Characters.{starts_name, continues_name, continues_number, is_quote, begins}
-use Rattle.mb_lexer.specs.Strings.{Piece, number, spelled, units, are_pieces}
+use Rattle.mb_lexer.specs.Strings.{Piece, number_of, piece_text, units, are_pieces}
 
 -- a token, with its text where it has one
 pub data Content : Type 0 where
@@ -44,7 +44,9 @@ is_name (c ∷ cs) = starts_name c && list_all continues_name cs
 -- `0`, or digits without a leading zero, up to 9007199254740991
 abbrev pub is_whole : List ℕ → Bool
 is_whole [] = false
-is_whole (c ∷ cs) = list_all (λ d. is_digit d 10) (c ∷ cs) && (not (c == 48) || length cs == 0) && nat_le (number 10 (c ∷ cs)) 9007199254740991
+is_whole (c ∷ cs) =
+    list_all (λ d. is_digit d 10) (c ∷ cs) && (not (c == 48) || length cs == 0)
+    && nat_le (number_of 10 (c ∷ cs)) 9007199254740991
 
 -- whether a comment begins here
 abbrev pub begins_comment : List ℕ → Bool
@@ -61,7 +63,7 @@ pub record IsText (us cs : List ℕ) : Type 0 where
   pub quote : ℕ
   pub pieces : List Piece
   pub quoted : is_quote quote ≡ true
-  pub form : cs ≡ quote ∷ (flat_map spelled pieces ++ quote ∷ [])
+  pub form : cs ≡ quote ∷ (flat_map piece_text pieces ++ quote ∷ [])
   pub inside : are_pieces quote pieces (quote ∷ []) ≡ true
   pub units : us ≡ flat_map units pieces
 
@@ -70,6 +72,7 @@ abbrev pub IsToken : Content → List ℕ → List ℕ → Type 0
 IsToken (name us) cs rest = IsName us cs rest × (named us ≡ name us)
 IsToken (soft s us) cs rest = IsName us cs rest × (named us ≡ soft s us)
 IsToken (reserved w us) cs rest = IsName us cs rest × (named us ≡ reserved w us)
-IsToken (whole n) cs rest = (is_whole cs ≡ true) × (n ≡ number 10 cs) × (begins continues_number rest ≡ false)
+IsToken (whole n) cs rest = (is_whole cs ≡ true) × (n ≡ number_of 10 cs) × (begins continues_number rest ≡ false)
 IsToken (text us) cs rest = IsText us cs
-IsToken (mark m) cs rest = (cs ≡ mark_text m) × (mark_at (cs ++ rest) ≡ Some m) × (begins_comment (cs ++ rest) ≡ false)
+IsToken (mark m) cs rest =
+    (cs ≡ mark_text m) × (mark_at (cs ++ rest) ≡ Some m) × (begins_comment (cs ++ rest) ≡ false)

@@ -1,252 +1,201 @@
-// The machine that reads one character at a time.
-ghost use Rattle.std.specs.Prelude.{◌≡◌, ℕ, ◌+◌, ◌<◌, ◌≤◌, List, [], ◌∷◌, ◌++◌, ◌/◌, ◌%◌, Some, Result, Ok, Err, IfOk, IfErr, OnOk, length, slice_get, false};
-ghost use Rattle.std.specs.Char.{len_utf8};
-ghost use Rattle.std.specs.Char.Escape.{encode_utf16};
+// The lexer, which is fed a script piece by piece.
+ghost use Rattle.std.specs.Prelude.{◌≡◌, ℕ, ◌+◌, ◌<◌, ◌≤◌, false, List, [], ◌++◌, OnOk, length};
+ghost use Rattle.std.specs.Str.{IsUtf8, StartsWithNoChar};
 ghost use Rattle.mb_text.specs.Texts.{AreDistinct, KeepsIds};
-ghost use Rattle.mb_lexer.specs.Reading.{fault as fault_at};
-ghost use Rattle.mb_lexer.specs.Tokens.{named};
-ghost use Rattle.mb_lexer.specs.Machine.{Machine, fresh, fault_kind, moved, ended, lasting, step as step_of};
-ghost use Rattle.mb_lexer.specs.Answers.{Shows, Gains, IsStop, Matches, Closes, given, IsFit, AddsCode};
+ghost use Rattle.mb_lexer.specs.Shown.{IsLexed};
+ghost use Rattle.mb_lexer.specs.Feeding.{Fed};
+ghost use Rattle.mb_lexer.specs.machine.Outcomes.{is_broken};
 
 use crate::LexFault;
-use crate::state::{Move, State, begin, is_line_end};
-use mb_base::StrId;
-use mb_text::{TextFault, Texts};
-use mb_token::{Mark, Soft, Spanned, Token, Word};
+use crate::unfinished::Unfinished;
+use mb_base::NoMemory;
+use mb_text::Texts;
+use mb_token::Spanned;
 use std::alloc::Global;
 use std::marker::Model;
 
-/// The token that isn't finished. Its state is no more than that token and its place.
+/// Reads a script that comes in pieces. Beside the tokens it holds no more than the one that isn't finished, and up to
+/// three bytes of a character that was cut.
 #[derive(Drop)]
 pub struct Lexer {
-    state: State,
-    from: u32,
-    to: u32,
-    after_line: bool,
-    units: Vec<u16>,
+    alloc: Global,
+    tokens: Vec<Spanned>,
+    current: Unfinished,
+    fault: Option<LexFault>,
+    pending: Vec<u8>,
+    fed: u32,
 }
 
 impl Model for Lexer {
-    ghost use Rattle.mb_lexer.specs.Machine.{Machine};
+    ghost use Rattle.mb_lexer.specs.Feeding.{Lexing};
+    ghost use Rattle.mb_lexer.specs.machine.Outcomes.{IsSound};
 
-    ghost Value = { Machine };
+    ghost Value = { Lexing };
 
-    ghost view = { λ l. record { state = l.state; from = l.from; to = l.to; line = l.after_line; units = l.units.items } };
+    ghost view = { λ l. record {
+      tokens = l.tokens.items;
+      current = l.current;
+      fault = l.fault;
+      pending = l.pending.items;
+      fed = l.fed;
+    } };
+
+    ghost invariant = { λ l. IsSound l.fault l.current l.pending.items l.fed };
 }
 
 impl Lexer {
-    pub fn new(alloc: Global) -> Lexer
-        ensures { result ≡ fresh 0 false }
+    /// A lexer that was fed nothing. It takes no memory.
+    pub fn begin(alloc: Global) -> Lexer
+        ensures nothing { result.fed ≡ 0 }
+        ensures fed { (texts : List (List ℕ)) → Fed result texts [] }
     {
         Lexer {
-            state: State::Between,
-            from: 0,
-            to: 0,
-            after_line: false,
-            units: Vec::new(alloc),
+            alloc,
+            tokens: Vec::new(alloc),
+            current: Unfinished::new(alloc),
+            fault: None,
+            pending: Vec::new(alloc),
+            fed: 0,
         }
     }
 
-    /// Reads a character. A token that ended before it is put at the end of `tokens`.
-    pub fn step(
-        &mut self,
-        ch: char,
-        tokens: &mut Vec<Spanned>,
-        texts: &mut Texts,
-    ) -> Result<(), LexFault>
-        requires fit { IsFit self.old }
-        requires place { self.old.to + len_utf8 ch ≤ 1048576 }
-        ensures next { Matches result (step_of self.old ch).next self.new }
-        ensures tokens { OnOk result (Gains texts.old tokens.old.items texts.new tokens.new.items (step_of self.old ch).tokens) }
+    /// How many bytes it was fed.
+    pub fn fed(&self) -> u32
+        ensures { result ≡ self.now.fed }
+    {
+        self.fed
+    }
+
+    /// Reads the next bytes. A script may be cut anywhere, within a character too. A fault is told by `finish`, since
+    /// bytes that aren't UTF-8 may still come and go before it. After `NoMemory` the lexer isn't to be used again.
+    pub fn feed(&mut self, piece: &[u8], texts: &mut Texts) -> Result<(), NoMemory>
+        requires { self.old.fed + length piece.now ≤ 1048576 }
+        ensures fed { OnOk result ((bytes : List ℕ)
+            → Fed self.old texts.old bytes → Fed self.new texts.new (bytes ++ piece.now)) }
+        ensures count { OnOk result (self.new.fed ≡ self.old.fed + length piece.now) }
         ensures texts { KeepsIds texts.old texts.new }
         ensures distinct { AreDistinct texts.old → AreDistinct texts.new }
     {
-        let mut change = self.state.next(ch);
-        if let Move::Ends = change {
-            self.finish(tokens, texts)?;
-            change = begin(ch);
+        if self.pending.is_empty() {
+            return self.read(piece, texts);
         }
-        self.go(ch, change, tokens)
+        let mut bytes = Vec::from_slice(self.alloc, &self.pending)?;
+        bytes.extend_from_slice(piece)?;
+        self.fed -= self.pending.len() as u32;
+        self.pending.clear();
+        self.read(&bytes, texts)
     }
 
-    /// Ends the open token, and puts it at the end of `tokens`.
-    pub fn finish(&mut self, tokens: &mut Vec<Spanned>, texts: &mut Texts) -> Result<(), LexFault>
-        requires fit { IsFit self.old }
-        requires place { self.old.to ≤ 1048576 }
-        ensures closes { Closes result (ended self.old.state self.old) self.old self.new }
-        ensures fresh { OnOk result (self.new ≡ fresh self.old.to (lasting (given (ended self.old.state self.old)) self.old.line)) }
-        ensures tokens { OnOk result (Gains texts.old tokens.old.items texts.new tokens.new.items (given (ended self.old.state self.old))) }
+    /// What `lex` answers for all the bytes, however they were cut.
+    pub fn finish(self, texts: &mut Texts) -> Result<Vec<Spanned>, LexFault>
+        ensures answer { (bytes : List ℕ) → Fed self texts.old bytes → IsLexed texts.new bytes result }
         ensures texts { KeepsIds texts.old texts.new }
         ensures distinct { AreDistinct texts.old → AreDistinct texts.new }
     {
-        self.emit(tokens, texts)?;
-        self.state = State::Between;
-        self.from = self.to;
-        self.units.clear();
-        Ok(())
+        let Lexer {
+            mut tokens,
+            mut current,
+            fault,
+            pending,
+            fed,
+            ..
+        } = self;
+        if !pending.is_empty() {
+            return Err(LexFault::Utf8 {
+                at: fed - pending.len() as u32,
+            });
+        }
+        if let Some(fault) = fault {
+            return Err(fault);
+        }
+        current.finish(&mut tokens, texts)?;
+        Ok(tokens)
     }
 
-    // Puts the open token, which ends here, at the end of the tokens.
-    fn emit(&mut self, tokens: &mut Vec<Spanned>, texts: &mut Texts) -> Result<(), LexFault>
-        requires fit { IsFit self.old }
-        requires place { self.old.to ≤ 1048576 }
-        ensures closes { Closes result (ended self.old.state self.old) self.old self.new }
-        ensures tokens { OnOk result (Gains texts.old tokens.old.items texts.new tokens.new.items (given (ended self.old.state self.old))) }
+    // Reads bytes that come after whole characters.
+    fn read(&mut self, bytes: &[u8], texts: &mut Texts) -> Result<(), NoMemory>
+        requires whole { self.old.pending ≡ [] }
+        requires room { self.old.fed + length bytes.now ≤ 1048576 }
+        ensures fed { OnOk result ((before : List ℕ)
+            → Fed self.old texts.old before → Fed self.new texts.new (before ++ bytes.now)) }
+        ensures count { OnOk result (self.new.fed ≡ self.old.fed + length bytes.now) }
         ensures texts { KeepsIds texts.old texts.new }
         ensures distinct { AreDistinct texts.old → AreDistinct texts.new }
     {
-        match self.state {
-            State::Between | State::InLineComment => Ok(()),
-            State::InName => {
-                let token = self.name(texts)?;
-                self.push(token, tokens)
-            }
-            State::InWhole(value) => self.push(Token::Whole(value as i64), tokens),
-            State::AfterText => {
-                let id = self.intern(texts)?;
-                self.push(Token::Text(id), tokens)
-            }
-            State::InMark(mark) => self.push(Token::Mark(mark), tokens),
-            State::DoubleEqual => self.push_two(Mark::Equal, tokens),
-            State::NotEqual => self.push_two(Mark::Not, tokens),
-            State::InText(..) | State::InBlockComment(_) | State::Ampersand | State::Bar => Err(
-                self.fault(),
-            ),
+        if self.is_broken() {
+            self.fed += bytes.len() as u32;
+            return Ok(());
         }
+        let (text, rest) = longest_text(bytes);
+        if rest.len() > 3 {
+            self.fault = Some(LexFault::Utf8 {
+                at: self.fed + text.len() as u32,
+            });
+            self.fed += bytes.len() as u32;
+            return Ok(());
+        }
+        self.read_text(text, texts)?;
+        self.hold(rest)
     }
 
-    // The token goes on with a character.
-    fn go(&mut self, ch: char, change: Move, tokens: &mut Vec<Spanned>) -> Result<(), LexFault>
-        requires code { AddsCode change }
-        requires order { self.old.from ≤ self.old.to }
-        requires place { self.old.to + len_utf8 ch ≤ 1048576 }
-        ensures next { Matches result (moved self.old ch change).next self.new }
-        ensures tokens { (texts : List (List ℕ)) → OnOk result (Gains texts tokens.old.items texts tokens.new.items (moved self.old ch change).tokens) }
+    // Whether bytes came that are no UTF-8, whatever follows.
+    fn is_broken(&self) -> bool
+        ensures { result ≡ is_broken self.now.fault }
     {
-        match change {
-            Move::Goes(state) => self.state = state,
-            Move::Adds(state, code) => {
-                add_code(&mut self.units, code)?;
-                self.state = state;
-            }
-            Move::Splits(first) => {
-                self.push_first(first, tokens)?;
-                self.state = State::InMark(Mark::Arrow);
-            }
-            Move::Ends | Move::Fails => return Err(self.fault()),
-        }
-        self.to += ch.len_utf8() as u32;
-        if is_line_end(ch) && self.state.is_parting() {
-            self.after_line = true;
-        }
-        Ok(())
+        matches!(self.fault, Some(LexFault::Utf8 { .. }))
     }
 
-    // The fault of the open token.
-    fn fault(&self) -> LexFault
-        ensures { IsStop result (fault_at (fault_kind self.now.state) self.now.from) }
-    {
-        match self.state {
-            State::InWhole(_) => LexFault::Number { at: self.from },
-            _ => LexFault::Token { at: self.from },
-        }
-    }
-
-    // The id of the units.
-    fn intern(&self, texts: &mut Texts) -> Result<StrId, LexFault>
-        requires { length self.now.units ≤ 1048576 }
-        ensures text { IfOk result (λ id. slice_get texts.new id.0 ≡ Some self.now.units) }
-        ensures memory { IfErr result (λ fault. fault ≡ LexFault.NoMemory) }
-        ensures texts { KeepsIds texts.old texts.new }
-        ensures distinct { AreDistinct texts.new }
-    {
-        match texts.intern(&self.units) {
-            Ok(id) => Ok(id),
-            Err(TextFault::NoMemory) => Err(LexFault::NoMemory),
-            Err(TextFault::Long) => unreachable!(),
-        }
-    }
-
-    // What a name of the units is.
-    fn name(&self, texts: &mut Texts) -> Result<Token, LexFault>
-        requires { length self.now.units ≤ 1048576 }
-        ensures token { IfOk result (λ token. Shows texts.new token (named self.now.units)) }
-        ensures memory { IfErr result (λ fault. fault ≡ LexFault.NoMemory) }
+    // Reads characters, unless a fault came before them.
+    fn read_text(&mut self, text: &str, texts: &mut Texts) -> Result<(), NoMemory>
+        requires whole { self.old.pending ≡ [] }
+        requires room { self.old.fed + length text.now ≤ 1048576 }
+        requires utf8 { IsUtf8 text.now }
+        requires unbroken { is_broken self.old.fault ≡ false }
+        ensures fed { OnOk result ((before : List ℕ)
+            → Fed self.old texts.old before → Fed self.new texts.new (before ++ text.now)) }
+        ensures count { OnOk result (self.new.fed ≡ self.old.fed + length text.now) }
+        ensures whole { OnOk result (self.new.pending ≡ []) }
+        ensures unbroken { OnOk result (is_broken self.new.fault ≡ false) }
         ensures texts { KeepsIds texts.old texts.new }
         ensures distinct { AreDistinct texts.old → AreDistinct texts.new }
     {
-        let id = self.intern(texts)?;
-        if let Some(word) = Word::of_units(&self.units) {
-            return Ok(Token::Reserved(word, id));
+        if self.fault.is_none() {
+            if let Err(fault) = self.current.read(text, &mut self.tokens, texts) {
+                self.fault = Some(fault);
+                if let LexFault::NoMemory = fault {
+                    return Err(NoMemory);
+                }
+            }
         }
-        Ok(match Soft::of_units(&self.units) {
-            Some(soft) => Token::Soft(soft, id),
-            None => Token::Name(id),
-        })
-    }
-
-    // Puts a token that ends here at the end of the tokens.
-    fn push(&mut self, token: Token, tokens: &mut Vec<Spanned>) -> Result<(), LexFault>
-        ensures line { OnOk result (self.new ≡ record self.old { line = false }) }
-        ensures tokens { OnOk result (tokens.new.items ≡ tokens.old.items
-            ++ record { token = token; from = self.old.from; to = self.old.to; after_line = self.old.line } ∷ []) }
-        ensures memory { IfErr result (λ fault. fault ≡ LexFault.NoMemory) }
-    {
-        tokens.push(Spanned {
-            token,
-            from: self.from,
-            to: self.to,
-            after_line: self.after_line,
-        })?;
-        self.after_line = false;
+        self.fed += text.len() as u32;
         Ok(())
     }
 
-    // Puts a mark of one character at the end of the tokens. The open token goes on after it.
-    fn push_first(&mut self, mark: Mark, tokens: &mut Vec<Spanned>) -> Result<(), LexFault>
-        requires { self.old.from < 1048576 }
-        ensures rest { OnOk result (self.new ≡ record self.old { from = self.old.from + 1; line = false }) }
-        ensures tokens { OnOk result (tokens.new.items ≡ tokens.old.items
-            ++ record { token = Token.Mark mark; from = self.old.from; to = self.old.from + 1; after_line = self.old.line } ∷ []) }
-        ensures memory { IfErr result (λ fault. fault ≡ LexFault.NoMemory) }
+    // Keeps the first bytes of a character.
+    fn hold(&mut self, rest: &[u8]) -> Result<(), NoMemory>
+        requires whole { self.old.pending ≡ [] }
+        requires room { self.old.fed + length rest.now ≤ 1048576 }
+        requires short { length rest.now < 4 }
+        ensures held { OnOk result (self.new
+            ≡ record self.old { pending = rest.now; fed = self.old.fed + length rest.now }) }
     {
-        tokens.push(Spanned {
-            token: Token::Mark(mark),
-            from: self.from,
-            to: self.from + 1,
-            after_line: self.after_line,
-        })?;
-        self.from += 1;
-        self.after_line = false;
+        self.pending.extend_from_slice(rest)?;
+        self.fed += rest.len() as u32;
         Ok(())
-    }
-
-    // Puts a mark and `=` at the end of the tokens.
-    fn push_two(&mut self, first: Mark, tokens: &mut Vec<Spanned>) -> Result<(), LexFault>
-        requires { self.old.from < 1048576 }
-        ensures rest { OnOk result (self.new ≡ record self.old { from = self.old.from + 1; line = false }) }
-        ensures tokens { OnOk result (tokens.new.items ≡ tokens.old.items
-            ++ record { token = Token.Mark first; from = self.old.from; to = self.old.from + 1; after_line = self.old.line }
-            ∷ record { token = Token.Mark Mark.Equal; from = self.old.from + 1; to = self.old.to; after_line = false } ∷ []) }
-        ensures memory { IfErr result (λ fault. fault ≡ LexFault.NoMemory) }
-    {
-        self.push_first(first, tokens)?;
-        self.push(Token::Mark(Mark::Equal), tokens)
     }
 }
 
-// Puts the units of a code at the end.
-fn add_code(units: &mut Vec<u16>, code: u32) -> Result<(), LexFault>
-    requires { code ≤ 0x10ffff }
-    ensures units { OnOk result (units.new.items ≡ units.old.items ++ encode_utf16 code) }
-    ensures memory { IfErr result (λ fault. fault ≡ LexFault.NoMemory) }
+// The longest front that is UTF-8, and the bytes after it.
+fn longest_text(bytes: &[u8]) -> (&str, &[u8])
+    ensures whole { bytes.now ≡ result.0.now ++ result.1.now }
+    ensures utf8 { IsUtf8 result.0.now }
+    ensures none { StartsWithNoChar result.1.now }
 {
-    if code < 0x1_0000 {
-        units.push(code as u16)?;
-    } else {
-        let rest = code - 0x1_0000;
-        units.push((0xd800 + rest / 0x400) as u16)?;
-        units.push((0xdc00 + rest % 0x400) as u16)?;
+    match bytes.utf8_chunks().next() {
+        Some(chunk) => {
+            let text = chunk.valid();
+            (text, &bytes[text.len()..])
+        }
+        None => ("", bytes),
     }
-    Ok(())
 }

@@ -1,7 +1,7 @@
 // What a character does to a token that isn't finished.
 ghost use Rattle.std.specs.Prelude.{◌≡◌};
 ghost use Rattle.mb_lexer.specs.Characters.{is_blank as is_blank_char, is_line_end as is_line_end_char, starts_name as starts_name_char, continues_name as continues_name_char};
-ghost use Rattle.mb_lexer.specs.Machine.{opening_of, begun, whole_move, plain_move, escape_move, hex_move, code_move, inside_move, mark_move, last_move, split_move, move_of, is_parting as is_parting_state};
+ghost use Rattle.mb_lexer.specs.machine.Machine.{opening_of, begun, whole_move, plain_move, escape_move, hex_move, code_move, inside_move, mark_move, last_move, split_move, move_of, is_parting as is_parting_state};
 
 use mb_token::Mark;
 
@@ -99,7 +99,7 @@ fn continues_name(ch: char) -> bool
 }
 
 // What a mark's first character opens.
-#[tactic(auto, unfolding(crate::specs::Machine::opening_of))]
+#[tactic(auto, unfolding(crate::specs::machine::Machine::opening_of))]
 fn opening(ch: char) -> Option<State>
     ensures { result ≡ opening_of ch }
 {
@@ -132,7 +132,7 @@ fn opening(ch: char) -> Option<State>
 }
 
 /// What a character begins where no token is open.
-#[tactic(auto, unfolding(crate::specs::Machine::begun))]
+#[tactic(auto, unfolding(crate::specs::machine::Machine::begun))]
 pub fn begin(ch: char) -> Move
     ensures { result ≡ begun ch }
 {
@@ -154,7 +154,7 @@ pub fn begin(ch: char) -> Move
     }
 }
 
-#[tactic(auto, unfolding(crate::specs::Machine::whole_move))]
+#[tactic(auto, unfolding(crate::specs::machine::Machine::whole_move))]
 fn next_in_whole(value: u64, ch: char) -> Move
     ensures { result ≡ whole_move value ch }
 {
@@ -173,7 +173,7 @@ fn next_in_whole(value: u64, ch: char) -> Move
     }
 }
 
-#[tactic(auto, unfolding(crate::specs::Machine::plain_move))]
+#[tactic(auto, unfolding(crate::specs::machine::Machine::plain_move))]
 fn next_in_plain(quote: char, ch: char) -> Move
     ensures { result ≡ plain_move quote ch }
 {
@@ -188,7 +188,7 @@ fn next_in_plain(quote: char, ch: char) -> Move
     }
 }
 
-#[tactic(auto, unfolding(crate::specs::Machine::escape_move))]
+#[tactic(auto, unfolding(crate::specs::machine::Machine::escape_move))]
 fn next_in_escape(quote: char, ch: char) -> Move
     ensures { result ≡ escape_move quote ch }
 {
@@ -211,7 +211,7 @@ fn next_in_escape(quote: char, ch: char) -> Move
     }
 }
 
-#[tactic(auto, unfolding(crate::specs::Machine::hex_move))]
+#[tactic(auto, unfolding(crate::specs::machine::Machine::hex_move))]
 fn next_in_digits(quote: char, left: u8, value: u16, ch: char) -> Move
     ensures { result ≡ hex_move quote left value ch }
 {
@@ -258,7 +258,7 @@ fn next_in_text(quote: char, inside: Inside, ch: char) -> Move
     }
 }
 
-#[tactic(auto, unfolding(crate::specs::Machine::code_move))]
+#[tactic(auto, unfolding(crate::specs::machine::Machine::code_move))]
 fn next_in_code(quote: char, value: u32, ch: char) -> Move
     ensures { result ≡ code_move quote value ch }
 {
@@ -273,7 +273,7 @@ fn next_in_code(quote: char, value: u32, ch: char) -> Move
     }
 }
 
-#[tactic(auto, unfolding(crate::specs::Machine::mark_move))]
+#[tactic(auto, unfolding(crate::specs::machine::Machine::mark_move))]
 fn next_in_mark(mark: Mark, ch: char) -> Move
     ensures { result ≡ mark_move mark ch }
 {

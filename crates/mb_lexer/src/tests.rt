@@ -1,7 +1,7 @@
 // The rows of the format, and the lexer against a plain program that reads a text as the format says.
-use crate::{LONGEST_SCRIPT, LexFault, lex};
+use crate::{LONGEST_SCRIPT, LexFault, Lexer, lex};
 use mb_text::Texts;
-use mb_token::{Soft, Spanned, Token};
+use mb_token::{Mark, Soft, Spanned, Token};
 use std::alloc::Global;
 use std::process::Abort;
 use std::test::Fail;
@@ -221,5 +221,129 @@ fn a_token_has_its_text_and_place(rt: HostRuntime) -> Result<(), Fail> {
         },
     ];
     assert_eq!(rt; tokens.as_slice(), want.as_slice());
+    Ok(())
+}
+
+// What a lexer answers that is fed these pieces.
+fn fed(
+    rt: &impl Abort,
+    alloc: Global,
+    pieces: &[&[u8]],
+    texts: &mut Texts,
+) -> Result<Vec<Spanned>, LexFault> {
+    let mut lexer = Lexer::begin(alloc);
+    for piece in pieces {
+        let before = lexer.fed();
+        assert!(rt; piece.len() <= LONGEST_SCRIPT);
+        assert!(rt; before as usize + piece.len() <= LONGEST_SCRIPT);
+        lexer.feed(piece, texts).map_err(|_| LexFault::NoMemory)?;
+        assert_eq!(rt; lexer.fed() as usize, before as usize + piece.len());
+    }
+    lexer.finish(texts)
+}
+
+// The bytes have this answer, whatever pieces they come in: their tokens' number, or their fault.
+fn in_every_cut(
+    rt: &impl Abort,
+    alloc: Global,
+    bytes: &[u8],
+    want: Result<usize, LexFault>,
+) -> Result<(), Fail> {
+    assert!(rt; bytes.len() <= LONGEST_SCRIPT);
+    let mut texts = Texts::new(alloc);
+    let whole = lex(alloc, bytes, &mut texts);
+    match (&whole, want) {
+        (Ok(tokens), Ok(number)) => assert_eq!(rt; tokens.len(), number),
+        (Err(fault), Err(want)) => assert_eq!(rt; *fault, want),
+        _ => assert!(rt; false),
+    }
+    let ones: Vec<&[u8]> = bytes.chunks(1).collect(alloc)?;
+    same_answer(rt, &fed(rt, alloc, &ones, &mut texts), &whole);
+    for at in 0..=bytes.len() {
+        let (front, rest) = bytes.split_at(at);
+        same_answer(rt, &fed(rt, alloc, &[front, rest], &mut texts), &whole);
+        same_answer(
+            rt,
+            &fed(rt, alloc, &[front, &[], rest, &[]], &mut texts),
+            &whole,
+        );
+    }
+    Ok(())
+}
+
+fn same_answer(
+    rt: &impl Abort,
+    found: &Result<Vec<Spanned>, LexFault>,
+    want: &Result<Vec<Spanned>, LexFault>,
+) {
+    match (found, want) {
+        (Ok(found), Ok(want)) => assert_eq!(rt; found.as_slice(), want.as_slice()),
+        (Err(found), Err(want)) => assert_eq!(rt; *found, *want),
+        _ => assert!(rt; false),
+    }
+}
+
+// Bytes with the number of their tokens, or their fault.
+const CUT_ROWS: [(&[u8], Result<usize, LexFault>); 20] = [
+    (b"", Ok(0)),
+    (b"print(\"a\\n\\u00e9\\ud83d\");", Ok(5)),
+    (b"#", Err(LexFault::Token { at: 0 })),
+    (b"#\xff", Err(LexFault::Utf8 { at: 1 })),
+    (b"# 01", Err(LexFault::Token { at: 0 })),
+    (b"01 #", Err(LexFault::Number { at: 0 })),
+    (b"01 \xc3(", Err(LexFault::Utf8 { at: 3 })),
+    (b"a\xff\xff\xff\xffb", Err(LexFault::Utf8 { at: 1 })),
+    (b"\"\xed\xa0\x80\"", Err(LexFault::Utf8 { at: 1 })),
+    (b"\xf4\x90\x80\x80", Err(LexFault::Utf8 { at: 0 })),
+    (b"\xc3\xa9\xc3\xa9 \xe2\x80\xa8x", Ok(2)),
+    (b"\"\xc3\xa9\"", Ok(1)),
+    (b"\"\xe2\x82\xac\"", Ok(1)),
+    (b"\"\xf0\x9f\x98\x80\"", Ok(1)),
+    (b"a \xc3", Err(LexFault::Utf8 { at: 2 })),
+    (b"a \xe2\x82", Err(LexFault::Utf8 { at: 2 })),
+    (b"# \xf0\x9f\x98", Err(LexFault::Utf8 { at: 2 })),
+    (b"\xf0\x9d\x90\x80x===/*\n*/y==>z", Ok(6)),
+    (
+        b"typeof get 9007199254740991 9007199254740992",
+        Err(LexFault::Number { at: 28 }),
+    ),
+    (b"x /* y", Err(LexFault::Token { at: 2 })),
+];
+
+#[test]
+fn cuts_change_nothing(rt: HostRuntime) -> Result<(), Fail> {
+    for (bytes, want) in CUT_ROWS {
+        in_every_cut(&rt, rt.alloc(), bytes, want)?;
+    }
+    Ok(())
+}
+
+#[test]
+fn pieces_of_one_byte_and_of_4096(rt: HostRuntime) -> Result<(), Fail> {
+    let bytes = b"print(\"a\\n\\u00e9\\ud83d\");";
+    let mut texts = Texts::new(rt.alloc());
+    let print = texts.intern(&[0x70, 0x72, 0x69, 0x6e, 0x74])?;
+    let text = texts.intern(&[0x61, 0x0a, 0xe9, 0xd83d])?;
+    let places = [
+        (Token::Name(print), 0, 5),
+        (Token::Mark(Mark::OpenParen), 5, 6),
+        (Token::Text(text), 6, 23),
+        (Token::Mark(Mark::CloseParen), 23, 24),
+        (Token::Mark(Mark::Semicolon), 24, 25),
+    ];
+    for size in [1, 4096] {
+        let pieces: Vec<&[u8]> = bytes.chunks(size).collect(rt.alloc())?;
+        let tokens = fed(&rt, rt.alloc(), &pieces, &mut texts)?;
+        assert_eq!(rt; tokens.len(), places.len());
+        for (spanned, (token, from, to)) in tokens.iter().zip(places) {
+            let want = Spanned {
+                token,
+                from,
+                to,
+                after_line: false,
+            };
+            assert_eq!(rt; *spanned, want);
+        }
+    }
     Ok(())
 }

@@ -5,7 +5,7 @@ use Rattle.std.specs.Str.{bytes_eq}
 use Rattle.std.specs.declared.alloc.Global.{Global}
 use Rattle.std.proofs.lemmas.Option.{slice_get-map, slice_get_read}
 use Rattle.mb_outer.specs.Shelf.{held, entry_of, shelf_of}
-use Rattle.mb_outer.specs.Place.{rest_at}
+use Rattle.mb_outer.specs.machine.Place.{rest_at}
 use Rattle.mb_outer.specs.declared.place.Place.{Place}
 
 abbrev pub Entry : Type 0

@@ -1,7 +1,7 @@
 pub mod Causes
 pub mod Counts
 pub mod FileState
-pub mod Place
+pub mod machine
 pub mod Shelf
 pub mod ShelfState
 pub mod SinkState

@@ -1,10 +1,13 @@
 // Texts in real files.
 ghost use Rattle.std.specs.Prelude.{◌≡◌, None, false};
 ghost use Rattle.std.proofs.Common.{sym, true≢false};
+ghost use Rattle.mb_outer.specs.Causes.{StartHasCause, GotHasCause};
+ghost use Rattle.mb_outer.specs.machine.Answers.{counted, start_of, got_of};
 
 use crate::counts::count_fault;
 use crate::{Got, Library, Start};
 use std::fs::File;
+use std::io;
 use std::io::Read;
 use std::marker::Model;
 use std::rt::Files;
@@ -41,7 +44,7 @@ impl<'a, R: Files> FileLibrary<'a, R> {
 
 impl<'a, R: Files> Library for FileLibrary<'a, R> {
     ghost use Rattle.std.specs.Prelude.{◌↔◌, IsTrue};
-    ghost use Rattle.mb_outer.specs.Causes.{StartHasCause, GotHasCause, GotWithin};
+    ghost use Rattle.mb_outer.specs.Causes.{GotWithin};
     ghost use Rattle.mb_outer.specs.Counts.{one_more};
 
     ghost shelf = { λ _. None };
@@ -59,12 +62,10 @@ impl<'a, R: Files> Library for FileLibrary<'a, R> {
         ensures fault { result ≡ Start.Failed → self.new.faults ≡ one_more self.old.faults }
         ensures cause { StartHasCause self.old.faults self.new.faults result }
     {
-        self.file = std::fs::open(self.rt, name).ok();
-        if self.file.is_some() {
-            return Start::Started;
-        }
-        count_fault(&mut self.faults);
-        Start::Failed
+        let opened = std::fs::open(self.rt, name);
+        let answer = start_answer(&opened, &mut self.faults);
+        self.file = opened.ok();
+        answer
     }
 
     // One read of the file: each error is a fault, an interrupted read too.
@@ -76,12 +77,38 @@ impl<'a, R: Files> Library for FileLibrary<'a, R> {
         ensures bound { GotWithin result into.new }
     {
         if let Some(file) = &mut self.file {
-            if let Ok(count) = file.read(into) {
-                return Got::Bytes(count);
-            }
+            return read_answer(file.read(into), &mut self.faults);
         }
         count_fault(&mut self.faults);
         Got::Failed
+    }
+}
+
+// What the opening of a file becomes.
+fn start_answer<F>(opened: &io::Result<F>, faults: &mut u64) -> Start
+    ensures answer { result ≡ start_of opened.now }
+    ensures faults { faults.new ≡ counted faults.old opened.now }
+    ensures cause { StartHasCause faults.old faults.new result }
+{
+    if opened.is_ok() {
+        return Start::Started;
+    }
+    count_fault(faults);
+    Start::Failed
+}
+
+// What the read of a file becomes.
+fn read_answer(read: io::Result<usize>, faults: &mut u64) -> Got
+    ensures answer { result ≡ got_of read }
+    ensures faults { faults.new ≡ counted faults.old read }
+    ensures cause { GotHasCause faults.old faults.new result }
+{
+    match read {
+        Ok(count) => Got::Bytes(count),
+        Err(_) => {
+            count_fault(faults);
+            Got::Failed
+        }
     }
 }
 

@@ -15,7 +15,7 @@ pub enum Start {
 /// The answer of [`Library::read`].
 #[derive(Clone, Copy, Debug, PartialEq, Eq)]
 pub enum Got {
-    /// So many bytes stand at the front of the buffer.
+    /// The front of the buffer holds this many bytes of the text.
     Bytes(usize),
     /// A fault.
     Failed,
@@ -35,8 +35,8 @@ pub trait Library {
     /// Only a name that isn't there and a read with nothing started are faults, from here on.
     ghost sound: { Self → Bool };
 
-    /// Starts the text of that name, in place of the one before. A name that isn't there is a
-    /// fault.
+    /// Starts the text that has this name, from its first byte, and ends the one that was started before. Where no
+    /// text has the name, that is a fault.
     fn start(&mut self, name: &str) -> Start
         ensures same { shelf self.new ≡ shelf self.old }
         ensures sound { IsTrue (sound self.old) → IsTrue (sound self.new) }
@@ -45,8 +45,8 @@ pub trait Library {
         ensures never { (s : Shelf) → IsTrue (sound self.old) → shelf self.old ≡ Some s
             → IsSome (held name.now s) → result ≡ Start.Started };
 
-    /// Reads the next bytes of the started text into the front of the buffer. `Bytes(0)` into a
-    /// buffer that isn't empty is the end of the text. With nothing started it is a fault.
+    /// Puts the next bytes of the started text at the front of the buffer. Where the buffer has room, `Bytes(0)` says
+    /// that the text has ended. A read before any start is a fault.
     fn read(&mut self, into: &mut [u8]) -> Got
         ensures same { shelf self.new ≡ shelf self.old }
         ensures sound { IsTrue (sound self.old) → IsTrue (sound self.new) }

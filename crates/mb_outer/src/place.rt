@@ -11,7 +11,7 @@ pub(crate) struct Place {
 impl Place {
     ghost use Rattle.std.specs.Prelude.{◌≡◌, ◌<◌, ◌+◌, ◌++◌, length, take, drop, min, Some, IfSome, option_map};
     ghost use Rattle.mb_outer.specs.Shelf.{held, shelf_of};
-    ghost use Rattle.mb_outer.specs.Place.{rest_at, bytes_at, IsOn};
+    ghost use Rattle.mb_outer.specs.machine.Place.{rest_at, bytes_at, IsOn};
     ghost use Rattle.mb_outer.specs.ShelfState.{read_answer, filled};
     ghost use Rattle.mb_outer.specs.declared.library.Got.TheVariants as Got;
 

@@ -19,7 +19,7 @@ pub struct ShelfLibrary {
 
 impl Model for ShelfLibrary {
     ghost use Rattle.std.specs.Prelude.{◌≤◌, IfSome};
-    ghost use Rattle.mb_outer.specs.Place.{rest_at, IsOn};
+    ghost use Rattle.mb_outer.specs.machine.Place.{rest_at, IsOn};
     ghost use Rattle.mb_outer.specs.Shelf.{shelf_of};
     ghost use Rattle.mb_outer.specs.ShelfState.{ShelfState};
 

@@ -51,7 +51,7 @@ impl ShelfSink {
         ensures puts { IfOk result (λ s. s.puts ≡ 0) }
         ensures faults { IfOk result (λ s. s.faults ≡ 0) }
     {
-        let bytes = Vec::with_capacity(alloc, room).map_err(|_| NoMemory)?;
+        let bytes = Vec::with_capacity(alloc, room)?;
         Ok(ShelfSink {
             bytes,
             room,

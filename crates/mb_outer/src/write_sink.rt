@@ -1,8 +1,11 @@
 // Bytes to any writer of std's.
-ghost use Rattle.std.specs.Prelude.{◌≡◌, None};
+ghost use Rattle.std.specs.Prelude.{◌≡◌, ◌<◌, ◌↔◌, ℕ, None, length, take, IsErr, IfOk, IfErr, OnOk, OnErr};
+ghost use Rattle.std.specs.Io.KnownBytes.{Appends};
+ghost use Rattle.mb_outer.specs.machine.Answers.{TookNone};
 
 use crate::counts::count_fault;
 use crate::{Put, Sink};
+use std::io;
 use std::io::Write;
 use std::marker::Model;
 
@@ -52,52 +55,89 @@ impl<W: Write> Sink for WriteSink<W> {
         ensures puts { Puts (W.contents self.old.writer) (W.contents self.new.writer)
             bytes.now result }
     {
-        let mut done = 0;
-        for _ in 0..MOST_TURNS {
-            if done >= bytes.len() {
-                return Put::All;
-            }
-            match self.writer.write(&bytes[done..]) {
-                Ok(0) => break,
-                Ok(count) => done += count,
-                Err(_) => break,
+        match write_all(&mut self.writer, bytes) {
+            Ok(()) => Put::All,
+            Err(_) => {
+                count_fault(&mut self.faults);
+                Put::Failed
             }
         }
-        count_fault(&mut self.faults);
-        Put::Failed
+    }
+}
+
+// Why a put ends before its last byte: by a write, or by the number of its turns.
+#[derive(Clone, Copy)]
+enum Stop {
+    Write,
+    Turns,
+}
+
+// Writes the bytes, one write a turn.
+fn write_all<W: Write>(writer: &mut W, bytes: &[u8]) -> Result<(), Stop>
+    ensures all { OnOk result (Appends (W.contents writer.old) (W.contents writer.new) bytes.now) }
+    ensures front { OnErr result ((n : ℕ) × Appends (W.contents writer.old) (W.contents writer.new) (take n bytes.now)) }
+    ensures turns { result ≡ Err Stop.Turns → 2_000_000 < length bytes.now }
+{
+    let mut done = 0;
+    for _turn in 0..MOST_TURNS {
+        if done == bytes.len() {
+            return Ok(());
+        }
+        done += taken(writer.write(&bytes[done..]))?;
+    }
+    if done == bytes.len() {
+        Ok(())
+    } else {
+        Err(Stop::Turns)
+    }
+}
+
+// How many bytes a write took. None, and an error, end the put.
+fn taken(written: io::Result<usize>) -> Result<usize, Stop>
+    ensures count { IfOk result (λ count. written ≡ Ok count) }
+    ensures some { IfOk result (λ count. 0 < count) }
+    ensures fault { IsErr result ↔ TookNone written }
+    ensures stop { IfErr result (λ stop. stop ≡ Stop.Write) }
+{
+    match written {
+        Ok(0) => Err(Stop::Write),
+        Ok(count) => Ok(count),
+        Err(_) => Err(Stop::Write),
     }
 }
 
 #[cfg(test)]
 mod tests {
     use super::*;
-    use std::io;
     use std::io::ErrorKind;
 
-    // Takes at most two bytes a write, as long as it has room, and then none or an error.
-    #[derive(Drop)]
-    struct Narrow {
-        taken: [u8; 5],
-        len: usize,
-        errs: bool,
+    // One answer of the writer below.
+    #[derive(Clone, Copy)]
+    enum Turn {
+        Takes(usize),
+        Errs,
     }
 
-    impl Write for Narrow {
+    // Answers its writes by these turns, and each write behind them by the last. It counts the writes.
+    #[derive(Drop)]
+    struct Scripted {
+        turns: [Turn; 3],
+        writes: usize,
+        taken: usize,
+    }
+
+    impl Write for Scripted {
         fn write(&mut self, buf: &[u8]) -> io::Result<usize> {
-            let count = buf
-                .len()
-                .min(2)
-                .min(self.taken.len().saturating_sub(self.len));
-            if count == 0 && self.errs {
-                return Err(io::Error::from(ErrorKind::Other));
-            }
-            for byte in &buf[..count] {
-                if let Some(place) = self.taken.get_mut(self.len) {
-                    *place = *byte;
-                    self.len += 1;
+            let turn = self.turns[self.writes.min(2)];
+            self.writes = self.writes.saturating_add(1);
+            match turn {
+                Turn::Takes(most) => {
+                    let count = most.min(buf.len());
+                    self.taken = self.taken.saturating_add(count);
+                    Ok(count)
                 }
+                Turn::Errs => Err(io::Error::from(ErrorKind::Interrupted)),
             }
-            Ok(count)
         }
 
         fn flush(&mut self) -> io::Result<()> {
@@ -105,24 +145,49 @@ mod tests {
         }
     }
 
+    // The turns of a writer, and after each of two puts of 100 bytes: the answer, the writes so far, the bytes taken,
+    // and the faults.
     #[test]
-    fn ends_where_the_writer_stops(rt: HostRuntime) {
-        for errs in [false, true] {
-            let mut sink = WriteSink::new(Narrow {
-                taken: *b".....",
-                len: 0,
-                errs,
+    fn a_put_ends_with_its_bytes_or_at_the_first_fault(rt: HostRuntime) {
+        let bytes = [b'x'; 100];
+        let one = Turn::Takes(1);
+        let all = Turn::Takes(100);
+        let rows = [
+            (
+                [Turn::Errs, all, all],
+                (Put::Failed, 1, 0, 1),
+                (Put::All, 2, 100, 1),
+            ),
+            (
+                [Turn::Takes(0), all, all],
+                (Put::Failed, 1, 0, 1),
+                (Put::All, 2, 100, 1),
+            ),
+            (
+                [one, one, one],
+                (Put::All, 100, 100, 0),
+                (Put::All, 200, 200, 0),
+            ),
+            (
+                [all, Turn::Takes(60), Turn::Errs],
+                (Put::All, 1, 100, 0),
+                (Put::Failed, 3, 160, 1),
+            ),
+        ];
+        for (turns, first, second) in rows {
+            let mut sink = WriteSink::new(Scripted {
+                turns,
+                writes: 0,
+                taken: 0,
             });
-            for (bytes, want, taken, faults) in [
-                ("abc", Put::All, b"abc..", 0),
-                ("", Put::All, b"abc..", 0),
-                ("def", Put::Failed, b"abcde", 1),
-                ("g", Put::Failed, b"abcde", 2),
-            ] {
-                assert_eq!(rt; sink.put(bytes.as_bytes()), want);
-                assert_eq!(rt; &sink.writer.taken, taken);
-                assert_eq!(rt; sink.faults, faults);
+            for want in [first, second] {
+                let answer = sink.put(&bytes);
+                assert_eq!(rt;
+                    (answer, sink.writer.writes, sink.writer.taken, sink.faults),
+                    want
+                );
             }
+            assert_eq!(rt; sink.put(&[]), Put::All);
         }
     }
 }

@@ -5,23 +5,25 @@ use Rattle.std.proofs.Math.Seq.{drop-cons}
 use Rattle.std.proofs.lemmas.Option.{slice_get_within, get_or_from_slice_get, slice_get-get_or}
 use Rattle.mb_token.specs.declared.token.Spanned.{Spanned}
 use Rattle.mb_tree.specs.Roses.{Rose, Roses}
-use Rattle.mb_parse_expr.specs.declared.role.Role.{Role}
-use Rattle.mb_parse_expr.specs.declared.role.Role.TheVariants as r
-use Rattle.mb_parse_expr.specs.Roles.{role_of, token_of, line_of, role_at, fresh_at, RoleAt, SameLine}
-use Rattle.mb_parse_expr.specs.Grammar.{IsFunction, Names, last_name, name_and, Params, no_params, params, params_comma, Head, one, many, Stands, lift, left_new, left_call, new_member, seq, assign, compound, arrow_value, arrow_block, cond, or, and_also, binary, unary, negative, before, behind, new_new, new_args, member, index, call, this, name_of, number, text, literal, array, object, function, group, Listed, last_of, then_of, unnamed, with_name, Made, made}
-use Rattle.mb_parse_expr.specs.Machine.{strength, arrow_role, arrow_at, closes_head, heads, ahead_of, ahead_at}
+use Rattle.mb_grammar.specs.declared.role.Role.{Role}
+use Rattle.mb_grammar.specs.declared.role.Role.TheVariants as r
+use Rattle.mb_grammar.specs.Tokens.{role_of, token_of, line_of, role_at, after_line_at, RoleAt, SameLine}
+use Rattle.mb_grammar.specs.Labels.{IsFunction}
+use Rattle.mb_grammar.specs.Parts.{Names, last_name, name_and, Params, no_params, params, params_comma, Head, one, many}
+use Rattle.mb_grammar.specs.Grammar.{Stands, lift, left_new, left_call, new_member, seq, assign, compound, arrow_value, arrow_block, cond, or, and_also, binary, unary, negative, before, behind, new_new, new_args, member, index, call, this, name_of, number, text, literal, array, object, function, group, Listed, last_of, then_of, unnamed, with_name, Made, made}
+use Rattle.mb_parse_expr.specs.machine.Machine.{strength, arrow_role, arrow_at, closes_head, heads, ahead_of, ahead_at}
 
-no_arrow_role : (role : Role) (fresh : Bool) → strength role fresh ≤ 18 → arrow_role role fresh ≡ false
+no_arrow_role : (role : Role) (after_line : Bool) → strength role after_line ≤ 18 → arrow_role role after_line ≡ false
 no_arrow_role r.Arrow true h = refl
 no_arrow_role r.Arrow false h = absurd (omega arith)
-no_arrow_role _ fresh h = refl
+no_arrow_role _ after_line h = refl
 
 module _ (ts : List Spanned) where
-  no_arrow : (i : ℕ) → strength (role_at ts i) (fresh_at ts i) ≤ 18 → arrow_at ts i ≡ false
-  no_arrow i h = no_arrow_role (role_at ts i) (fresh_at ts i) h
+  no_arrow : (i : ℕ) → strength (role_at ts i) (after_line_at ts i) ≤ 18 → arrow_at ts i ≡ false
+  no_arrow i h = no_arrow_role (role_at ts i) (after_line_at ts i) h
 
   an_arrow : (i : ℕ) → RoleAt ts i r.Arrow → SameLine ts i → arrow_at ts i ≡ true
-  an_arrow i a l = ap (λ x. arrow_role x (fresh_at ts i)) a.is ∙ ap not l.is
+  an_arrow i a l = ap (λ x. arrow_role x (after_line_at ts i)) a.is ∙ ap not l.is
 
   pub drop_at : (i : ℕ) (s : Spanned) → slice_get ts i ≡ Some s → drop i ts ≡ s ∷ drop (i + 1) ts
   drop_at i s e =
@@ -116,10 +118,10 @@ module _ (ts : List Spanned) where
   params_pass (params_comma {j = j} p e) h = names_pass p (heads_step j r.Comma e (λ q. cc) ∙ h)
 
   -- what a value that begins here has ahead
-  pub name_alone : {i : ℕ} {n : _} → RoleAt ts i (r.Name n) → strength (role_at ts (i + 1)) (fresh_at ts (i + 1)) ≤ 18 → ahead_at ts i ≡ false
+  pub name_alone : {i : ℕ} {n : _} → RoleAt ts i (r.Name n) → strength (role_at ts (i + 1)) (after_line_at ts (i + 1)) ≤ 18 → ahead_at ts i ≡ false
   name_alone {i = i} e h = ap (λ o. ahead_of o (arrow_at ts (i + 1)) (heads (drop (i + 1) ts))) e.is ∙ no_arrow ts (i + 1) h
 
-  pub group_alone : {a : Rose} {ds es : List ℕ} {i j : ℕ} → RoleAt ts i r.Open → Stands ts 1 a ds es (i + 1) j → RoleAt ts j r.Close → strength (role_at ts (j + 1)) (fresh_at ts (j + 1)) ≤ 18 → ahead_at ts i ≡ false
+  pub group_alone : {a : Rose} {ds es : List ℕ} {i j : ℕ} → RoleAt ts i r.Open → Stands ts 1 a ds es (i + 1) j → RoleAt ts j r.Close → strength (role_at ts (j + 1)) (after_line_at ts (j + 1)) ≤ 18 → ahead_at ts i ≡ false
   group_alone {i = i} {j = j} o d c h = ap (λ x. ahead_of x (arrow_at ts (i + 1)) (heads (drop (i + 1) ts))) o.is ∙ go (heads (drop (i + 1) ts)) refl
     where
       go : (b : Bool) → heads (drop (i + 1) ts) ≡ b → b ≡ false

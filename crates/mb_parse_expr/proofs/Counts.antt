@@ -5,25 +5,25 @@ use Rattle.std.proofs.lemmas.Option.{slice_get_within}
 use Rattle.mb_base.specs.declared.value.NodeId.{NodeId}
 use Rattle.mb_token.specs.declared.token.Spanned.{Spanned}
 use Rattle.mb_tree.specs.declared.kind.Kind.TheVariants as kd
-use Rattle.mb_tree.specs.Roses.{Rose, Roses, none, more, Shape}
-use Rattle.mb_tree.specs.Operands.{size, pushed}
+use Rattle.mb_tree.specs.Roses.{Rose, Roses, none, more, Shape, size, bare}
+use Rattle.mb_tree.specs.machine.Operands.{pushed}
 use Rattle.mb_tree.proofs.Written.{places_length}
-use Rattle.mb_parse_expr.specs.declared.role.Role.TheVariants as r
+use Rattle.mb_grammar.specs.declared.role.Role.TheVariants as r
 use Rattle.mb_parse_expr.specs.declared.role.Follow.{Follow}
-use Rattle.mb_parse_expr.specs.declared.machine.Level.{Level}
-use Rattle.mb_parse_expr.specs.declared.machine.Maker.{Maker}
-use Rattle.mb_parse_expr.specs.declared.machine.Maker.TheVariants as mk
+use Rattle.mb_grammar.specs.declared.level.Level.{Level}
+use Rattle.mb_grammar.specs.declared.function.Maker.{Maker}
+use Rattle.mb_grammar.specs.declared.function.Maker.TheVariants as mk
 use Rattle.mb_parse_expr.specs.declared.machine.Frame.{Frame}
 use Rattle.mb_parse_expr.specs.declared.machine.Frame.TheVariants as f
 use Rattle.mb_parse_expr.specs.declared.machine.Mode.{Mode}
 use Rattle.mb_parse_expr.specs.declared.machine.Mode.TheVariants as mo
 use Rattle.mb_parse_expr.specs.declared.machine.Move.{Move}
 use Rattle.mb_parse_expr.specs.declared.machine.Move.TheVariants.{Leaf, Enter, Begin, Swap, Build, Suffix, Turn, Pause, Wrong}
-use Rattle.mb_parse_expr.specs.Roles.{role_of, token_of, token_at, role_at, fresh_at}
-use Rattle.mb_parse_expr.specs.Grammar.{plain}
-use Rattle.mb_parse_expr.specs.Machine.{hole, value_move, taken_move, close_move, param_move, comma_move, head_move, block_move, open_move, property_move, key_move, keyed_move, item_move, move_of, ahead_at, follow_at, count_of, block_of, Going, laid, top}
-use Rattle.mb_parse_expr.specs.Covers.{Commas, no_comma, comma_more, PropertyCommas, no_property_yet, property_more, NameCommas, no_name, name_more, Spine, in_args, in_new_args, in_array, in_seq, in_arrow, Objects, in_object, Titled, title_read, Headed, headed, InParams, in_params, InComma, in_comma, InHead, in_head, Arrowed, arrowed, Ready, ready_arrow, ready_made, Braced, braced, Blocked, blocked, Dotted, dotted, Accessing, getting, setting, KeyRead, key_read, ItemRead, item_read, Behind, behind_operand, behind_short, Good}
-use Rattle.mb_parse_expr.specs.Reads.{Reading}
+use Rattle.mb_grammar.specs.Tokens.{role_of, token_of, token_at, role_at, after_line_at}
+use Rattle.mb_parse_expr.specs.machine.Machine.{hole, value_move, taken_move, close_move, param_move, comma_move, head_move, block_move, open_move, property_move, key_move, keyed_move, item_move, move_of, ahead_at, follow_at, count_of, block_of, Going}
+use Rattle.mb_tree.specs.machine.Stack.{laid, top}
+use Rattle.mb_parse_expr.specs.machine.Covers.{Commas, no_comma, comma_more, PropertyCommas, no_property_yet, property_more, NameCommas, no_name, name_more, Spine, in_args, in_new_args, in_array, in_seq, in_arrow, Objects, in_object, Titled, title_read, Headed, headed, InParams, in_params, InComma, in_comma, InHead, in_head, Arrowed, arrowed, Ready, ready_arrow, ready_made, Braced, braced, Blocked, blocked, Dotted, dotted, Accessing, getting, setting, KeyRead, key_read, ItemRead, item_read, Behind, behind_operand, behind_short, Good}
+use Rattle.mb_parse_expr.specs.machine.Progress.{Reading}
 use Rattle.mb_parse_expr.proofs.Place.{Chosen}
 
 pushed_length : (parts : Roses) (rs : List Rose) → length (pushed parts rs) ≡ size parts + length rs
@@ -140,7 +140,7 @@ value_none None ahead h = h
 value_none (Some f.Or) ahead h = h
 value_none _ ahead h = h
 
-new_none : (b : Bool) → Takes (if b then Wrong else Build (plain kd.New) 1 (mo.After 16) false) → ⊥
+new_none : (b : Bool) → Takes (if b then Wrong else Build (bare kd.New) 1 (mo.After 16) false) → ⊥
 new_none true h = h
 new_none false h = h
 
@@ -192,10 +192,10 @@ comma_none (Some (f.Params (mk.Getter p) n)) h = h
 comma_none (Some (f.Params (mk.Setter p) n)) h = h
 comma_none _ h = h
 
-head_none : (o : Option Frame) (fresh : Bool) → Takes (head_move o r.Other fresh) → ⊥
-head_none None fresh h = h
-head_none (Some (f.Head n)) fresh h = h
-head_none _ fresh h = h
+head_none : (o : Option Frame) (after_line : Bool) → Takes (head_move o r.Other after_line) → ⊥
+head_none None after_line h = h
+head_none (Some (f.Head n)) after_line h = h
+head_none _ after_line h = h
 
 property_none : (o : Option Frame) (follow : Follow) → Takes (property_move o None follow) → ⊥
 property_none None follow h = h
@@ -217,22 +217,22 @@ item_none None h = h
 item_none (Some (f.Object n)) h = h
 item_none _ h = h
 
-none_takes : (o : Option Frame) (mode : Mode) (fresh ahead : Bool) (follow : Follow) → Takes (move_of o mode None r.Other fresh ahead follow) → ⊥
-none_takes o mo.Operand fresh ahead follow h = value_none o ahead h
-none_takes o mo.Body fresh ahead follow h = value_none o ahead h
-none_takes o (mo.Block n) fresh ahead follow h = block_none o n h
-none_takes o (mo.Word l) fresh ahead follow h = h
-none_takes o mo.Title fresh ahead follow h = h
-none_takes o mo.Open fresh ahead follow h = open_none o h
-none_takes o mo.Param fresh ahead follow h = param_none o h
-none_takes o mo.Comma fresh ahead follow h = comma_none o h
-none_takes o mo.Arrow fresh ahead follow h = head_none o fresh h
-none_takes o mo.Brace fresh ahead follow h = h
-none_takes o mo.Property fresh ahead follow h = property_none o follow h
-none_takes o mo.Key fresh ahead follow h = key_none o h
-none_takes o mo.Keyed fresh ahead follow h = keyed_none o h
-none_takes o mo.Item fresh ahead follow h = item_none o h
-none_takes o (mo.After l) fresh ahead follow h = each (nat_lt l (hole o)) (nat_lt 0 (hole o)) (nat_lt l 0) h
+none_takes : (o : Option Frame) (mode : Mode) (after_line ahead : Bool) (follow : Follow) → Takes (move_of o mode None r.Other after_line ahead follow) → ⊥
+none_takes o mo.Operand after_line ahead follow h = value_none o ahead h
+none_takes o mo.Body after_line ahead follow h = value_none o ahead h
+none_takes o (mo.Block n) after_line ahead follow h = block_none o n h
+none_takes o (mo.Word l) after_line ahead follow h = h
+none_takes o mo.Title after_line ahead follow h = h
+none_takes o mo.Open after_line ahead follow h = open_none o h
+none_takes o mo.Param after_line ahead follow h = param_none o h
+none_takes o mo.Comma after_line ahead follow h = comma_none o h
+none_takes o mo.Arrow after_line ahead follow h = head_none o after_line h
+none_takes o mo.Brace after_line ahead follow h = h
+none_takes o mo.Property after_line ahead follow h = property_none o follow h
+none_takes o mo.Key after_line ahead follow h = key_none o h
+none_takes o mo.Keyed after_line ahead follow h = keyed_none o h
+none_takes o mo.Item after_line ahead follow h = item_none o h
+none_takes o (mo.After l) after_line ahead follow h = each (nat_lt l (hole o)) (nat_lt 0 (hole o)) (nat_lt l 0) h
   where
     each : (a b d : Bool) → Takes (if a then Wrong else (if b then close_move o l r.Other else (if d then Wrong else taken_move o l r.Other))) → ⊥
     each true b d q = q
@@ -240,11 +240,11 @@ none_takes o (mo.After l) fresh ahead follow h = each (nat_lt l (hole o)) (nat_l
     each false false true q = q
     each false false false q = taken_none o l q
 
-pub taken_within : (ts : List Spanned) (o : Option Frame) (mode : Mode) (at : ℕ) → Takes (move_of o mode (token_at ts at) (role_at ts at) (fresh_at ts at) (ahead_at ts at) (follow_at ts at)) → at < length ts
+pub taken_within : (ts : List Spanned) (o : Option Frame) (mode : Mode) (at : ℕ) → Takes (move_of o mode (token_at ts at) (role_at ts at) (after_line_at ts at) (ahead_at ts at) (follow_at ts at)) → at < length ts
 taken_within ts o mode at h = each (slice_get ts at) refl h
   where
-    each : (x : Option Spanned) → slice_get ts at ≡ x → Takes (move_of o mode (token_at ts at) (role_at ts at) (fresh_at ts at) (ahead_at ts at) (follow_at ts at)) → at < length ts
-    each None q z = absurd (none_takes o mode (fresh_at ts at) (ahead_at ts at) (follow_at ts at) (subst (λ y. Takes (move_of o mode (token_of y) (role_of (token_of y)) (fresh_at ts at) (ahead_at ts at) (follow_at ts at))) q z))
+    each : (x : Option Spanned) → slice_get ts at ≡ x → Takes (move_of o mode (token_at ts at) (role_at ts at) (after_line_at ts at) (ahead_at ts at) (follow_at ts at)) → at < length ts
+    each None q z = absurd (none_takes o mode (after_line_at ts at) (ahead_at ts at) (follow_at ts at) (subst (λ y. Takes (move_of o mode (token_of y) (role_of (token_of y)) (after_line_at ts at) (ahead_at ts at) (follow_at ts at))) q z))
     each (Some s) q z = slice_get_within ts at s q
 
 pub chosen_within : {ts : List Spanned} {frames : List Frame} {mode : Mode} {at : ℕ} {move : Move} → Chosen ts frames mode at move → Takes move → at < length ts

@@ -1,9 +1,9 @@
 -- Whether an expression stands at a place is decided, where that is decided of the bodies behind it.
 use Rattle.std.proofs.Common.{inl, inr, ℕ, zero, suc, ◌+◌, ◌-◌, ◌*◌, ◌<◌, ◌≤◌, true, false, List, [], ◌∷◌, length, refl, arith}
 use Rattle.mb_token.specs.declared.token.Spanned.{Spanned}
-use Rattle.mb_tree.specs.Roses.{Rose, none}
-use Rattle.mb_tree.specs.Operands.{size, pushed, Gathered, Short, Got, gather}
-use Rattle.mb_parse_expr.specs.declared.machine.Level.{Level}
+use Rattle.mb_tree.specs.Roses.{Rose, none, size}
+use Rattle.mb_tree.specs.machine.Operands.{pushed, Gathered, Short, Got, gather}
+use Rattle.mb_grammar.specs.declared.level.Level.{Level}
 use Rattle.mb_tree.specs.declared.tree.Label.{Label}
 use Rattle.mb_parse_expr.specs.declared.machine.Frame.{Frame}
 use Rattle.mb_parse_expr.specs.declared.machine.Frame.TheVariants as f
@@ -11,12 +11,13 @@ use Rattle.mb_parse_expr.specs.declared.machine.Mode.{Mode}
 use Rattle.mb_parse_expr.specs.declared.machine.Mode.TheVariants as mo
 use Rattle.mb_parse_expr.specs.declared.machine.Move.{Move}
 use Rattle.mb_parse_expr.specs.declared.machine.Move.TheVariants.{Leaf, Enter, Begin, Swap, Build, Suffix, Turn, Pause, Ended, Wrong}
-use Rattle.mb_parse_expr.specs.Machine.{State, Going, Waits, Ends, Fails, Stuck, built, top, below, apply, move_at, Leads, answered}
-use Rattle.mb_parse_expr.specs.Covers.{bottom, blocked}
-use Rattle.mb_parse_expr.specs.Reads.{Progress, AreTheStatements}
-use Rattle.mb_parse_expr.specs.Bodies.{HasOneBody, BodyAt, ExpressionAt, IsDecided}
+use Rattle.mb_parse_expr.specs.machine.Machine.{State, Going, Waits, Ends, Fails, Stuck, built, apply, move_at, Leads, answered}
+use Rattle.mb_tree.specs.machine.Stack.{top, below}
+use Rattle.mb_parse_expr.specs.machine.Covers.{bottom, blocked}
+use Rattle.mb_parse_expr.specs.machine.Progress.{Progress}
+use Rattle.mb_grammar.specs.Bodies.{AreTheStatements, HasOneBody, BodyAt, ExpressionAt, IsDecided}
 use Rattle.mb_parse_expr.proofs.Steps.{whole_reads}
-use Rattle.mb_parse_expr.proofs.Forward.{statements_forward}
+use Rattle.mb_grammar.proofs.Forward.{statements_forward}
 use Rattle.mb_parse_expr.proofs.Counts.{Takes, taken_within}
 use Rattle.mb_parse_expr.proofs.Place.{progress_step, waits_step}
 use Rattle.mb_parse_expr.proofs.Once.{IsBehind, higher, step_behind}

@@ -3,8 +3,5 @@ pub mod Steps
 pub mod Sound
 pub mod Place
 pub mod Counts
-pub mod Forward
 pub mod Once
-pub mod Renamed
-pub mod Begins
 pub mod Decides

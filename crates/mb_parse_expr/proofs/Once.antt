@@ -1,20 +1,20 @@
 -- A parser has one way to go, and names bodies in order.
 use Rattle.std.proofs.Common.{◌≡◌, ℕ, ◌+◌, ◌<◌, ◌≤◌, true, false, List, [], ◌∷◌, refl, sym, subst, arith}
 use Rattle.mb_token.specs.declared.token.Spanned.{Spanned}
-use Rattle.mb_tree.specs.Roses.{Rose, none}
-use Rattle.mb_tree.specs.Operands.{size, pushed, Gathered, Short, Got, gather}
-use Rattle.mb_parse_expr.specs.declared.machine.Level.{Level}
+use Rattle.mb_tree.specs.Roses.{Rose, none, size}
+use Rattle.mb_tree.specs.machine.Operands.{pushed, Gathered, Short, Got, gather}
+use Rattle.mb_grammar.specs.declared.level.Level.{Level}
 use Rattle.mb_tree.specs.declared.tree.Label.{Label}
 use Rattle.mb_parse_expr.specs.declared.machine.Frame.{Frame}
 use Rattle.mb_parse_expr.specs.declared.machine.Mode.{Mode}
 use Rattle.mb_parse_expr.specs.declared.machine.Mode.TheVariants as mo
 use Rattle.mb_parse_expr.specs.declared.machine.Move.{Move}
 use Rattle.mb_parse_expr.specs.declared.machine.Move.TheVariants.{Leaf, Enter, Begin, Swap, Build, Suffix, Turn, Pause, Ended, Wrong}
-use Rattle.mb_parse_expr.specs.Machine.{State, Going, Waits, Ends, Fails, Stuck, built, apply, move_at, Leads, here, after, answered}
-use Rattle.mb_parse_expr.specs.Reads.{Whole}
-use Rattle.mb_parse_expr.specs.Bodies.{HasOneBody, HasOneExpression, AreFalling}
+use Rattle.mb_parse_expr.specs.machine.Machine.{State, Going, Waits, Ends, Fails, Stuck, built, apply, move_at, Leads, here, after, answered}
+use Rattle.mb_grammar.specs.Script.{Whole}
+use Rattle.mb_grammar.specs.Bodies.{HasOneBody, HasOneExpression, AreFalling}
 use Rattle.mb_parse_expr.proofs.Steps.{whole_reads}
-use Rattle.mb_parse_expr.proofs.Forward.{statements_forward}
+use Rattle.mb_grammar.proofs.Forward.{statements_forward}
 
 -- a state behind this place, with its bodies in order
 abbrev pub IsBehind : ℕ → State → Type 0

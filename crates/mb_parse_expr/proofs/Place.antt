@@ -4,10 +4,11 @@ use Rattle.std.specs.Prelude.{slice_get, if◌then◌else◌}
 use Rattle.std.proofs.Math.Seq.{take-append_seam}
 use Rattle.mb_base.specs.declared.value.NodeId.{NodeId}
 use Rattle.mb_token.specs.declared.token.Spanned.{Spanned}
-use Rattle.mb_tree.specs.Roses.{Rose, Roses, node, none, Shape, shape, id_of, root, write_all, roots}
-use Rattle.mb_tree.specs.Operands.{size, pushed, written, places, Gathered, Short, Got, gather}
-use Rattle.mb_tree.proofs.Written.{root_write, root_least, roots_length, places_length, gather_written, gather_places, gather_size, pushed_written, pushed_places}
-use Rattle.mb_parse_expr.specs.declared.machine.Level.{Level}
+use Rattle.mb_tree.specs.Roses.{Rose, Roses, node, none, Shape, shape, id_of, root, write_all, roots, size}
+use Rattle.mb_tree.specs.machine.Operands.{pushed, written, places, Gathered, Short, Got, gather}
+use Rattle.mb_tree.proofs.Stack.{popped}
+use Rattle.mb_tree.proofs.Written.{operands_fit, root_write, root_least, roots_length, places_length, gather_written, gather_places, gather_size, pushed_written, pushed_places}
+use Rattle.mb_grammar.specs.declared.level.Level.{Level}
 use Rattle.mb_tree.specs.declared.tree.Label.{Label}
 use Rattle.mb_parse_expr.specs.declared.machine.Frame.{Frame}
 use Rattle.mb_parse_expr.specs.declared.machine.Frame.TheVariants as f
@@ -15,13 +16,16 @@ use Rattle.mb_parse_expr.specs.declared.machine.Mode.{Mode}
 use Rattle.mb_parse_expr.specs.declared.machine.Mode.TheVariants as mo
 use Rattle.mb_parse_expr.specs.declared.machine.Move.{Move}
 use Rattle.mb_parse_expr.specs.declared.machine.Move.TheVariants.{Leaf, Enter, Begin, Swap, Build, Suffix, Turn, Pause, Ended, Wrong}
-use Rattle.mb_parse_expr.specs.declared.role.Role.TheVariants as r
-use Rattle.mb_parse_expr.specs.Roles.{token_at, role_at, fresh_at, RoleAt}
-use Rattle.mb_parse_expr.specs.Grammar.{Statements}
-use Rattle.mb_parse_expr.specs.Machine.{ahead_at, follow_at, move_of, Going, Waits, Ends, Fails, built, laid, top, below, apply, move_at, Leads, here, after, answered}
-use Rattle.mb_parse_expr.specs.Covers.{bottom, blocked}
-use Rattle.mb_parse_expr.specs.Reads as reads
-use Rattle.mb_parse_expr.specs.Reads.{Whole, Progress, Reading, Waiting, AreTheStatements}
+use Rattle.mb_grammar.specs.declared.role.Role.TheVariants as r
+use Rattle.mb_grammar.specs.Tokens.{token_at, role_at, after_line_at, RoleAt}
+use Rattle.mb_grammar.specs.Grammar.{Statements}
+use Rattle.mb_parse_expr.specs.machine.Machine.{ahead_at, follow_at, move_of, Going, Waits, Ends, Fails, built, apply, move_at, Leads, here, after, answered}
+use Rattle.mb_tree.specs.machine.Stack.{laid, top, below}
+use Rattle.mb_parse_expr.specs.machine.Covers.{bottom, blocked}
+use Rattle.mb_parse_expr.specs.Pauses.{IsTree}
+use Rattle.mb_grammar.specs.Script.{Whole}
+use Rattle.mb_parse_expr.specs.machine.Progress.{Progress, Reading, Waiting}
+use Rattle.mb_grammar.specs.Bodies.{AreTheStatements}
 use Rattle.mb_parse_expr.proofs.Steps.{whole_reads}
 use Rattle.mb_parse_expr.proofs.Sound.{good_step}
 
@@ -40,27 +44,10 @@ progress_step ts level start fs rs ds mode at move e p = subst (λ m. Progress t
 pub record Chosen (ts : List Spanned) (frames : List Frame) (mode : Mode) (at : ℕ) (move : Move) : Type 0 where
   pub o : Option Frame
   pub tops : (fs : List Frame) → frames ≡ laid fs → o ≡ top fs
-  pub is : move ≡ move_of o mode (token_at ts at) (role_at ts at) (fresh_at ts at) (ahead_at ts at) (follow_at ts at)
+  pub is : move ≡ move_of o mode (token_at ts at) (role_at ts at) (after_line_at ts at) (ahead_at ts at) (follow_at ts at)
 
 chosen_is : {ts : List Spanned} {frames : List Frame} {mode : Mode} {at : ℕ} {move : Move} (c : Chosen ts frames mode at move) (fs : List Frame) → frames ≡ laid fs → move ≡ move_at ts fs mode at
-chosen_is {ts = ts} {mode = mode} {at = at} c fs e = c.is ∙ ap (λ o. move_of o mode (token_at ts at) (role_at ts at) (fresh_at ts at) (ahead_at ts at) (follow_at ts at)) (c.tops fs e)
-
-pub shorter : (frames frames' : List Frame) (k : ℕ) → 1 ≤ length frames → k ≡ length frames → frames' ≡ take (k - 1) frames → length frames' + 1 ≡ length frames
-shorter frames frames' k h ke fe = omega (arith, ap length fe, length-take (k - 1) frames)
-
--- the frame on top is taken off
-popped : (fs frames frames' : List Frame) (k : ℕ) → frames ≡ laid fs → k ≡ length frames → frames' ≡ take (k - 1) frames → frames' ≡ laid (below fs)
-popped [] frames frames' k e ke fe =
-    let z : k - 1 ≡ 0 = omega (arith, ap length e) in
-    fe ∙ ap (λ x. take x frames) z
-popped (f' ∷ fs) frames frames' k e ke fe =
-    let len : k - 1 ≡ length (laid fs) = omega (arith, ap length e, length-append (laid fs) (f' ∷ [])) in
-    fe ∙ ap (λ x. take (k - 1) x) e ∙ ap (λ x. take x (laid fs ++ f' ∷ [])) len ∙ take-append_seam (laid fs) (f' ∷ [])
-
--- each operand has a node of its own
-pub operands_fit : (base : List Shape) (rs : List Rose) → length base + length rs ≤ length (written base rs)
-operands_fit base [] = omega arith
-operands_fit base (q ∷ rs) = omega (arith, operands_fit base rs, root_write (written base rs) q, root_least (written base rs) q)
+chosen_is {ts = ts} {mode = mode} {at = at} c fs e = c.is ∙ ap (λ o. move_of o mode (token_at ts at) (role_at ts at) (after_line_at ts at) (ahead_at ts at) (follow_at ts at)) (c.tops fs e)
 
 module _ {ts : List Spanned} {level : Level} {start : ℕ} {base : List Shape} {ds : List ℕ} {frames : List Frame} {mode : Mode} {at : ℕ} {ids : List NodeId} {shapes : List Shape} (h : Reading ts level start base ds frames mode at ids shapes) where
   stepped : (move : Move) → Chosen ts frames mode at move → Progress ts level start (apply move h.fs h.rs ds at)
@@ -177,7 +164,7 @@ module _ {ts : List Spanned} {level : Level} {start : ℕ} {base : List Shape} {
   pub reading_fit : length ids ≤ length shapes
   reading_fit = omega (arith, ap length h.ids_are, places_length base h.rs, ap length h.shapes_are, operands_fit base h.rs)
 
-  pub reading_ended : Chosen ts frames mode at Ended → (0 < length ids) × ((place : NodeId) → slice_get ids 0 ≡ Some place → reads.IsTree ts level start ds base shapes at place)
+  pub reading_ended : Chosen ts frames mode at Ended → (0 < length ids) × ((place : NodeId) → slice_get ids 0 ≡ Some place → IsTree ts level start ds base shapes at place)
   reading_ended c =
       let p = progress_step ts level start h.fs h.rs ds mode at Ended (chosen_is c h.fs h.frames_are) h.progress in
       let g = p.sound in

@@ -14,30 +14,35 @@ use Rattle.mb_token.specs.declared.word.Soft.TheVariants.{Get, Set}
 use Rattle.mb_tree.specs.declared.kind.Kind.TheVariants as kd
 use Rattle.mb_tree.specs.declared.kind.Sign.{Sign}
 use Rattle.mb_tree.specs.declared.kind.Sign.TheVariants as s
-use Rattle.mb_tree.specs.Roses.{Rose, Roses, node, none, more, bare, named}
-use Rattle.mb_tree.specs.Operands.{size, join, pushed, Gathered, Got, gather}
+use Rattle.mb_tree.specs.Roses.{Rose, Roses, node, none, more, bare, named, size, join}
+use Rattle.mb_tree.specs.machine.Operands.{pushed, Gathered, Got, gather}
 use Rattle.mb_tree.proofs.Written.{gather_pushed, gathers}
-use Rattle.mb_parse_expr.specs.declared.role.Role.{Role}
-use Rattle.mb_parse_expr.specs.declared.role.Role.TheVariants as r
+use Rattle.mb_grammar.specs.declared.role.Role.{Role}
+use Rattle.mb_grammar.specs.declared.role.Role.TheVariants as r
 use Rattle.mb_parse_expr.specs.declared.role.Follow.{Follow}
 use Rattle.mb_parse_expr.specs.declared.role.Follow.TheVariants as fo
-use Rattle.mb_parse_expr.specs.declared.machine.Level.{Level}
-use Rattle.mb_parse_expr.specs.declared.machine.Level.TheVariants as lv
+use Rattle.mb_grammar.specs.declared.level.Level.{Level}
+use Rattle.mb_grammar.specs.declared.level.Level.TheVariants as lv
 use Rattle.mb_tree.specs.declared.tree.Label.{Label}
-use Rattle.mb_parse_expr.specs.declared.machine.Property.{Property}
-use Rattle.mb_parse_expr.specs.declared.machine.Maker.{Maker}
-use Rattle.mb_parse_expr.specs.declared.machine.Maker.TheVariants as mk
+use Rattle.mb_grammar.specs.declared.function.Property.{Property}
+use Rattle.mb_grammar.specs.declared.function.Maker.{Maker}
+use Rattle.mb_grammar.specs.declared.function.Maker.TheVariants as mk
 use Rattle.mb_parse_expr.specs.declared.machine.Frame.{Frame}
 use Rattle.mb_parse_expr.specs.declared.machine.Frame.TheVariants as f
 use Rattle.mb_parse_expr.specs.declared.machine.Mode.{Mode}
 use Rattle.mb_parse_expr.specs.declared.machine.Mode.TheVariants as mo
 use Rattle.mb_parse_expr.specs.declared.machine.Mode.TheVariants.{Operand, Body, After, Block}
 use Rattle.mb_parse_expr.specs.declared.machine.Move.TheVariants.{Swap, Build, Suffix, Wrong}
-use Rattle.mb_parse_expr.specs.Roles.{role_of, follow_of, token_at, role_at, fresh_at, RoleAt, NoRoleAt, SameLine}
-use Rattle.mb_parse_expr.specs.Grammar.{level_of, plain, titled, named_property, value_label, made_label, WordText, name, soft, reserved, GetAt, SetAt, param, Names, last_name, name_and, Params, no_params, params, params_comma, MakerParams, of_function, of_method, of_getter, of_setter, Head, one, many, Stands, lift, left_new, left_call, new_member, seq, assign, compound, arrow_value, arrow_block, cond, or, and_also, binary, unary, negative, before, behind, new_new, new_args, member, index, call, this, name_of, number, text, literal, array, object, function, group, Listed, last_of, then_of, Elements, nothing, elements, elements_comma, KeyOf, key_word, key_text, key_number, key_computed, Before, unnamed, with_name, method, getter, setter, Made, made, PropertyOf, valued, shorthand, maker_of, PropertyList, last_property, then_property, Properties, no_property, properties, properties_comma, Statements}
-use Rattle.mb_parse_expr.specs.Machine.{extra_of, made_extra, made_mode, hole, strength, least_before, value_move, taken_move, end_move, close_move, params_move, param_move, comma_move, head_move, block_move, title_move, open_move, brace_move, property_move, key_move, keyed_move, item_move, word_move, name_move, body_move, ahead_at, follow_at, Going, built, top, apply, move_at}
+use Rattle.mb_grammar.specs.Tokens.{role_of, token_at, role_at, after_line_at, RoleAt, NoRoleAt, SameLine}
+use Rattle.mb_parse_expr.specs.machine.Machine.{follow_of, extra_of, made_extra, made_mode, hole, strength, least_before, value_move, taken_move, end_move, close_move, params_move, param_move, comma_move, head_move, block_move, title_move, open_move, brace_move, property_move, key_move, keyed_move, item_move, word_move, name_move, body_move, ahead_at, follow_at, Going, built, apply, move_at}
+use Rattle.mb_grammar.specs.Nonterminals.{level_of}
+use Rattle.mb_grammar.specs.Labels.{named_property, value_label, made_label, param}
+use Rattle.mb_grammar.specs.Parts.{WordText, name, soft, reserved, GetAt, SetAt, Names, last_name, name_and, Params, no_params, params, params_comma, MakerParams, of_function, of_method, of_getter, of_setter, Head, one, many}
+use Rattle.mb_grammar.specs.Grammar.{Stands, lift, left_new, left_call, new_member, seq, assign, compound, arrow_value, arrow_block, cond, or, and_also, binary, unary, negative, before, behind, new_new, new_args, member, index, call, this, name_of, number, text, literal, array, object, function, group, Listed, last_of, then_of, Elements, nothing, elements, elements_comma, KeyOf, key_word, key_text, key_number, key_computed, Before, unnamed, with_name, method, getter, setter, Made, made, PropertyOf, valued, shorthand, maker_of, PropertyList, last_property, then_property, Properties, no_property, properties, properties_comma, Statements}
+use Rattle.mb_tree.specs.machine.Stack.{top}
 use Rattle.mb_parse_expr.proofs.Steps.{level_bound, hole_range, sign_range, key_size, before_size, made_gathers, valued_gathers, no_brace}
-use Rattle.mb_parse_expr.specs.Covers.{IsListing, Commas, no_comma, comma_more, PropertyCommas, no_property_yet, property_more, NameCommas, no_name, name_more, Opening, opening, arrow_opening, Spine, bottom, in_infix, in_or, in_and, in_becomes, in_compound, in_test, in_choice, in_unary, in_negative, in_before, in_new, in_group, in_index, in_args, in_new_args, in_array, in_seq, in_arrow, in_value, in_computed, in_computed_get, in_computed_set, Objects, in_object, Under, under_arrow, under_function, under_method, under_getter, under_setter, Titled, title_read, Headed, headed, InParams, in_params, InComma, in_comma, InHead, in_head, Arrowed, arrowed, Ready, ready_arrow, ready_made, Braced, braced, Blocked, blocked, Dotted, dotted, Accessing, getting, setting, KeyRead, key_read, ItemRead, item_read, Behind, behind_operand, behind_short, IsEnd, Good}
+use Rattle.mb_parse_expr.specs.machine.Covers.{IsListing, Commas, no_comma, comma_more, PropertyCommas, no_property_yet, property_more, NameCommas, no_name, name_more, Opening, opening, arrow_opening, Spine, bottom, in_infix, in_or, in_and, in_becomes, in_compound, in_test, in_choice, in_unary, in_negative, in_before, in_new, in_group, in_index, in_args, in_new_args, in_array, in_seq, in_arrow, in_value, in_computed, in_computed_get, in_computed_set, Objects, in_object, Under, under_arrow, under_function, under_method, under_getter, under_setter, Titled, title_read, Headed, headed, InParams, in_params, InComma, in_comma, InHead, in_head, Arrowed, arrowed, Ready, ready_arrow, ready_made, Braced, braced, Blocked, blocked, Dotted, dotted, Accessing, getting, setting, KeyRead, key_read, ItemRead, item_read, Behind, behind_operand, behind_short, Good}
+use Rattle.mb_grammar.specs.Script.{IsEnd}
 
 -- levels
 
@@ -180,16 +185,16 @@ module _ (ts : List Spanned) (lvl : Level) (start : ℕ) where
   good_empty_close : {fs : List Frame} {rs : List Rose} {ds : List ℕ} {at : ℕ} (ahead : Bool) → RoleAt ts at r.Close → Spine ts lvl start fs rs ds at → Good ts lvl start (apply (value_move (top fs) r.Close ahead) fs rs ds at)
   good_empty_close {at = at} ahead e (in_args {n = n} {a = a} {fs = fs} {rs = rs} {rs' = rs'} {gs = gs} sp u d o c) =
       let p = end_commas c in
-      good_built (plain kd.Call) (After 17) fs rs gs (at + 1) _ (more a p.parts) (ap (λ x. gather (n + 1) x none) p.stack ∙ gathers p.parts 1 (n + 1) (a ∷ rs) (omega (arith, p.count))) (behind_operand sp (call u d o p.listed e))
+      good_built (bare kd.Call) (After 17) fs rs gs (at + 1) _ (more a p.parts) (ap (λ x. gather (n + 1) x none) p.stack ∙ gathers p.parts 1 (n + 1) (a ∷ rs) (omega (arith, p.count))) (behind_operand sp (call u d o p.listed e))
   good_empty_close {at = at} ahead e (in_new_args {n = n} {a = a} {fs = fs} {rs = rs} {rs' = rs'} {gs = gs} sp w d o c) =
       let p = end_commas c in
-      good_built (plain kd.New) (After 18) fs rs gs (at + 1) _ (more a p.parts) (ap (λ x. gather (n + 1) x none) p.stack ∙ gathers p.parts 1 (n + 1) (a ∷ rs) (omega (arith, p.count))) (behind_operand sp (new_args w d o p.listed e))
+      good_built (bare kd.New) (After 18) fs rs gs (at + 1) _ (more a p.parts) (ap (λ x. gather (n + 1) x none) p.stack ∙ gathers p.parts 1 (n + 1) (a ∷ rs) (omega (arith, p.count))) (behind_operand sp (new_args w d o p.listed e))
   good_empty_close ahead e _ = tt
 
   good_empty_square : {fs : List Frame} {rs : List Rose} {ds : List ℕ} {at : ℕ} (ahead : Bool) → RoleAt ts at r.CloseSquare → Spine ts lvl start fs rs ds at → Good ts lvl start (apply (value_move (top fs) r.CloseSquare ahead) fs rs ds at)
   good_empty_square {at = at} ahead e (in_array {n = n} {fs = fs} {rs = rs} {es = es} sp o c) =
       let p = end_commas c in
-      good_built (plain kd.ArrayLit) (After 18) fs rs es (at + 1) _ p.parts (ap (λ x. gather n x none) p.stack ∙ gathers p.parts 0 n rs (omega (arith, p.count))) (behind_operand sp (array o p.listed e))
+      good_built (bare kd.ArrayLit) (After 18) fs rs es (at + 1) _ p.parts (ap (λ x. gather n x none) p.stack ∙ gathers p.parts 0 n rs (omega (arith, p.count))) (behind_operand sp (array o p.listed e))
   good_empty_square ahead e _ = tt
 
   good_minus : (fs : List Frame) (rs : List Rose) (ds : List ℕ) (at : ℕ) (sign : Sign) (ahead : Bool) → RoleAt ts at (r.Infix sign) → Spine ts lvl start fs rs ds at → Good ts lvl start (apply (value_move (top fs) (r.Infix sign) ahead) fs rs ds at)
@@ -249,43 +254,43 @@ module _ (ts : List Spanned) (lvl : Level) (start : ℕ) where
           in_new_args sp o (from_place ts q (subst (λ n. Stands ts n a ds es i at) p st)) e no_comma
   good_open a l es at u st e sp = in_args sp u st e no_comma
 
-  not_fresh : (plus fresh : Bool) (h : ℕ) → 1 ≤ h → h ≤ strength (r.Step plus) fresh → fresh ≡ false
-  not_fresh plus true h p q = absurd (omega arith)
-  not_fresh plus false h p q = refl
+  not_after_line : (plus after_line : Bool) (h : ℕ) → 1 ≤ h → h ≤ strength (r.Step plus) after_line → after_line ≡ false
+  not_after_line plus true h p q = absurd (omega arith)
+  not_after_line plus false h p q = refl
 
-  ends_low : (role : Role) (fresh : Bool) → follow_of role ≡ fo.Ends → strength role fresh < 3
-  ends_low r.Comma fresh e = omega arith
-  ends_low r.CloseBrace fresh e = omega arith
-  ends_low _ fresh e = cc
+  ends_low : (role : Role) (after_line : Bool) → follow_of role ≡ fo.Ends → strength role after_line < 3
+  ends_low r.Comma after_line e = omega arith
+  ends_low r.CloseBrace after_line e = omega arith
+  ends_low _ after_line e = cc
 
-  good_taken_at : (fs : List Frame) (a : Rose) (rs : List Rose) (ds es : List ℕ) (l i at : ℕ) (role : Role) (fresh : Bool) → role_at ts at ≡ role → fresh_at ts at ≡ fresh → Spine ts lvl start fs rs ds i → Stands ts l a ds es i at → hole (top fs) ≤ strength role fresh → least_before role ≤ l → Good ts lvl start (apply (taken_move (top fs) l role) fs (a ∷ rs) es at)
-  good_taken_at fs a rs ds es l i at r.Comma fresh e q sp st h u = in_seq sp (omega arith) (comma_more no_comma (lower ts l 3 (omega arith) u st) (record { is = e }) refl refl)
-  good_taken_at fs a rs ds es l i at r.Becomes fresh e q sp st h u = in_becomes sp (lower ts l 15 (omega arith) u st) (record { is = e }) refl
-  good_taken_at fs a rs ds es l i at (r.Compound sign) fresh e q sp st h u = in_compound sp (lower ts l 15 (omega arith) u st) (record { is = e }) refl
-  good_taken_at fs a rs ds es l i at r.Question fresh e q sp st h u = in_test sp (lower ts l 6 (omega arith) u st) (record { is = e }) refl
-  good_taken_at fs a rs ds es l i at r.Or fresh e q sp st h u = in_or sp (lower ts l 8 (omega arith) u st) (record { is = e }) refl
-  good_taken_at fs a rs ds es l i at r.And fresh e q sp st h u = in_and sp (lower ts l 10 (omega arith) u st) (record { is = e }) refl
-  good_taken_at fs a rs ds es l i at (r.Infix sign) fresh e q sp st h u = in_infix sp (lower ts l (level_of sign) (omega (arith, (sign_range sign).1)) u st) (record { is = e }) refl
-  good_taken_at fs a rs ds es l i at (r.Step plus) fresh e q sp st h u =
-      behind_operand sp (behind (lower ts l 15 (omega arith) u st) (record { is = e }) (record { is = q ∙ not_fresh plus fresh (hole (top fs)) (hole_range (top fs)).0 h }))
-  good_taken_at fs a rs ds es l i at r.OpenSquare fresh e q sp st h u = in_index sp u st (record { is = e }) refl
-  good_taken_at fs a rs ds es l i at r.Dot fresh e q sp st h u = dotted sp u st (record { is = e }) refl
-  good_taken_at fs a rs ds es l i at r.Open fresh e q sp st h u = good_open a l es at u st (record { is = e }) sp
-  good_taken_at fs a rs ds es l i at _ fresh e q sp st h u = tt
+  good_taken_at : (fs : List Frame) (a : Rose) (rs : List Rose) (ds es : List ℕ) (l i at : ℕ) (role : Role) (after_line : Bool) → role_at ts at ≡ role → after_line_at ts at ≡ after_line → Spine ts lvl start fs rs ds i → Stands ts l a ds es i at → hole (top fs) ≤ strength role after_line → least_before role ≤ l → Good ts lvl start (apply (taken_move (top fs) l role) fs (a ∷ rs) es at)
+  good_taken_at fs a rs ds es l i at r.Comma after_line e q sp st h u = in_seq sp (omega arith) (comma_more no_comma (lower ts l 3 (omega arith) u st) (record { is = e }) refl refl)
+  good_taken_at fs a rs ds es l i at r.Becomes after_line e q sp st h u = in_becomes sp (lower ts l 15 (omega arith) u st) (record { is = e }) refl
+  good_taken_at fs a rs ds es l i at (r.Compound sign) after_line e q sp st h u = in_compound sp (lower ts l 15 (omega arith) u st) (record { is = e }) refl
+  good_taken_at fs a rs ds es l i at r.Question after_line e q sp st h u = in_test sp (lower ts l 6 (omega arith) u st) (record { is = e }) refl
+  good_taken_at fs a rs ds es l i at r.Or after_line e q sp st h u = in_or sp (lower ts l 8 (omega arith) u st) (record { is = e }) refl
+  good_taken_at fs a rs ds es l i at r.And after_line e q sp st h u = in_and sp (lower ts l 10 (omega arith) u st) (record { is = e }) refl
+  good_taken_at fs a rs ds es l i at (r.Infix sign) after_line e q sp st h u = in_infix sp (lower ts l (level_of sign) (omega (arith, (sign_range sign).1)) u st) (record { is = e }) refl
+  good_taken_at fs a rs ds es l i at (r.Step plus) after_line e q sp st h u =
+      behind_operand sp (behind (lower ts l 15 (omega arith) u st) (record { is = e }) (record { is = q ∙ not_after_line plus after_line (hole (top fs)) (hole_range (top fs)).0 h }))
+  good_taken_at fs a rs ds es l i at r.OpenSquare after_line e q sp st h u = in_index sp u st (record { is = e }) refl
+  good_taken_at fs a rs ds es l i at r.Dot after_line e q sp st h u = dotted sp u st (record { is = e }) refl
+  good_taken_at fs a rs ds es l i at r.Open after_line e q sp st h u = good_open a l es at u st (record { is = e }) sp
+  good_taken_at fs a rs ds es l i at _ after_line e q sp st h u = tt
 
-  good_taken : {fs : List Frame} {rs : List Rose} {ds : List ℕ} {l at : ℕ} (role : Role) (fresh : Bool) → role_at ts at ≡ role → fresh_at ts at ≡ fresh → hole (top fs) ≤ strength role fresh → least_before role ≤ l → Behind ts lvl start fs rs ds l at → Good ts lvl start (apply (taken_move (top fs) l role) fs rs ds at)
-  good_taken {l = l} {at = at} role fresh e q h u (behind_operand {fs = fs} {a = a} {rs = rs} {ds = ds} {es = es} {i = i} sp st) = good_taken_at fs a rs ds es l i at role fresh e q sp st h u
-  good_taken role fresh e q h u (behind_short o n g p k) = absurd (omega (arith, ends_low role fresh (ap follow_of (sym e) ∙ g)))
+  good_taken : {fs : List Frame} {rs : List Rose} {ds : List ℕ} {l at : ℕ} (role : Role) (after_line : Bool) → role_at ts at ≡ role → after_line_at ts at ≡ after_line → hole (top fs) ≤ strength role after_line → least_before role ≤ l → Behind ts lvl start fs rs ds l at → Good ts lvl start (apply (taken_move (top fs) l role) fs rs ds at)
+  good_taken {l = l} {at = at} role after_line e q h u (behind_operand {fs = fs} {a = a} {rs = rs} {ds = ds} {es = es} {i = i} sp st) = good_taken_at fs a rs ds es l i at role after_line e q sp st h u
+  good_taken role after_line e q h u (behind_short o n g p k) = absurd (omega (arith, ends_low role after_line (ap follow_of (sym e) ∙ g)))
 
   -- an operand, and a token that ends it
   seq_of : {parts : Roses} {ds es : List ℕ} {i j : ℕ} → Listed ts parts ds es i j → 2 ≤ size parts → Stands ts 1 (node (bare kd.Seq) parts) ds es i j
   seq_of (last_of d) h = absurd (omega arith)
   seq_of (then_of d e q) h = seq d e q
 
-  seq_end : (n : ℕ) (a : Rose) (fs : List Frame) (rs rs' : List Rose) (ds es gs : List ℕ) (i m at : ℕ) → Spine ts lvl start fs rs ds i → 1 ≤ n → Commas ts n rs rs' ds es i m → Stands ts 3 a es gs m at → Good ts lvl start (built (plain kd.Seq) (After 1) fs gs at (gather (n + 1) (a ∷ rs') none))
+  seq_end : (n : ℕ) (a : Rose) (fs : List Frame) (rs rs' : List Rose) (ds es gs : List ℕ) (i m at : ℕ) → Spine ts lvl start fs rs ds i → 1 ≤ n → Commas ts n rs rs' ds es i m → Stands ts 3 a es gs m at → Good ts lvl start (built (bare kd.Seq) (After 1) fs gs at (gather (n + 1) (a ∷ rs') none))
   seq_end n a fs rs rs' ds es gs i m at sp u c st =
       let p = close_commas c (more a none) gs at (last_of st) in
-      good_built (plain kd.Seq) (After 1) fs rs gs at _ p.parts (ap (λ x. gather (n + 1) x none) p.stack ∙ gathers p.parts 0 (n + 1) rs (omega (arith, p.count))) (behind_operand sp (seq_of p.listed (omega (arith, p.count))))
+      good_built (bare kd.Seq) (After 1) fs rs gs at _ p.parts (ap (λ x. gather (n + 1) x none) p.stack ∙ gathers p.parts 0 (n + 1) rs (omega (arith, p.count))) (behind_operand sp (seq_of p.listed (omega (arith, p.count))))
 
   close_seq : (n : ℕ) (a : Rose) (fs : List Frame) (rs rs' : List Rose) (ds es gs : List ℕ) (l i m at : ℕ) (role : Role) → role_at ts at ≡ role → Spine ts lvl start fs rs ds i → 1 ≤ n → Commas ts n rs rs' ds es i m → Stands ts 3 a es gs m at → Good ts lvl start (apply (close_move (Some (f.Seq n)) l role) (f.Seq n ∷ fs) (a ∷ rs') gs at)
   close_seq n a fs rs rs' ds es gs l i m at r.Comma e sp u c st = in_seq sp (omega arith) (comma_more c st (record { is = e }) refl refl)
@@ -295,21 +300,21 @@ module _ (ts : List Spanned) (lvl : Level) (start : ℕ) where
   close_args n l' b a fs rs rs' ds es gs hs l i j m at r.Comma e sp u d o c st = in_args sp u d o (comma_more c st (record { is = e }) refl refl)
   close_args n l' b a fs rs rs' ds es gs hs l i j m at r.Close e sp u d o c st =
       let p = close_commas c (more a none) hs at (last_of st) in
-      good_built (plain kd.Call) (After 17) fs rs hs (at + 1) _ (more b p.parts) (ap (λ x. gather (n + 2) x none) p.stack ∙ gathers p.parts 1 (n + 2) (b ∷ rs) (omega (arith, p.count))) (behind_operand sp (call u d o (elements p.listed) (record { is = e })))
+      good_built (bare kd.Call) (After 17) fs rs hs (at + 1) _ (more b p.parts) (ap (λ x. gather (n + 2) x none) p.stack ∙ gathers p.parts 1 (n + 2) (b ∷ rs) (omega (arith, p.count))) (behind_operand sp (call u d o (elements p.listed) (record { is = e })))
   close_args n l' b a fs rs rs' ds es gs hs l i j m at _ e sp u d o c st = tt
 
   close_new_args : (n : ℕ) (b a : Rose) (fs : List Frame) (rs rs' : List Rose) (ds es gs hs : List ℕ) (l i j m at : ℕ) (role : Role) → role_at ts at ≡ role → Spine ts lvl start fs rs ds i → RoleAt ts i r.New → Stands ts 18 b ds es (i + 1) j → RoleAt ts j r.Open → Commas ts n (b ∷ rs) rs' es gs (j + 1) m → Stands ts 3 a gs hs m at → Good ts lvl start (apply (close_move (Some (f.NewArgs n)) l role) (f.NewArgs n ∷ fs) (a ∷ rs') hs at)
   close_new_args n b a fs rs rs' ds es gs hs l i j m at r.Comma e sp w d o c st = in_new_args sp w d o (comma_more c st (record { is = e }) refl refl)
   close_new_args n b a fs rs rs' ds es gs hs l i j m at r.Close e sp w d o c st =
       let p = close_commas c (more a none) hs at (last_of st) in
-      good_built (plain kd.New) (After 18) fs rs hs (at + 1) _ (more b p.parts) (ap (λ x. gather (n + 2) x none) p.stack ∙ gathers p.parts 1 (n + 2) (b ∷ rs) (omega (arith, p.count))) (behind_operand sp (new_args w d o (elements p.listed) (record { is = e })))
+      good_built (bare kd.New) (After 18) fs rs hs (at + 1) _ (more b p.parts) (ap (λ x. gather (n + 2) x none) p.stack ∙ gathers p.parts 1 (n + 2) (b ∷ rs) (omega (arith, p.count))) (behind_operand sp (new_args w d o (elements p.listed) (record { is = e })))
   close_new_args n b a fs rs rs' ds es gs hs l i j m at _ e sp w d o c st = tt
 
   close_array : (n : ℕ) (a : Rose) (fs : List Frame) (rs rs' : List Rose) (ds es gs : List ℕ) (l i m at : ℕ) (role : Role) → role_at ts at ≡ role → Spine ts lvl start fs rs ds i → RoleAt ts i r.OpenSquare → Commas ts n rs rs' ds es (i + 1) m → Stands ts 3 a es gs m at → Good ts lvl start (apply (close_move (Some (f.Array n)) l role) (f.Array n ∷ fs) (a ∷ rs') gs at)
   close_array n a fs rs rs' ds es gs l i m at r.Comma e sp o c st = in_array sp o (comma_more c st (record { is = e }) refl refl)
   close_array n a fs rs rs' ds es gs l i m at r.CloseSquare e sp o c st =
       let p = close_commas c (more a none) gs at (last_of st) in
-      good_built (plain kd.ArrayLit) (After 18) fs rs gs (at + 1) _ p.parts (ap (λ x. gather (n + 1) x none) p.stack ∙ gathers p.parts 0 (n + 1) rs (omega (arith, p.count))) (behind_operand sp (array o (elements p.listed) (record { is = e })))
+      good_built (bare kd.ArrayLit) (After 18) fs rs gs (at + 1) _ p.parts (ap (λ x. gather (n + 1) x none) p.stack ∙ gathers p.parts 0 (n + 1) rs (omega (arith, p.count))) (behind_operand sp (array o (elements p.listed) (record { is = e })))
   close_array n a fs rs rs' ds es gs l i m at _ e sp o c st = tt
 
   close_test : (a b : Rose) (fs : List Frame) (rs : List Rose) (ds es gs : List ℕ) (l i j at : ℕ) (role : Role) → role_at ts at ≡ role → Spine ts lvl start fs rs ds i → Stands ts 6 b ds es i j → RoleAt ts j r.Question → Stands ts 3 a es gs (j + 1) at → Good ts lvl start (apply (close_move (Some f.Test) l role) (f.Test ∷ fs) (a ∷ b ∷ rs) gs at)
@@ -339,13 +344,13 @@ module _ (ts : List Spanned) (lvl : Level) (start : ℕ) where
   close_new : (a : Rose) (fs : List Frame) (rs : List Rose) (ds es : List ℕ) (l i at : ℕ) (role : Role) → Spine ts lvl start fs rs ds i → RoleAt ts i r.New → 16 ≤ l → Stands ts l a ds es (i + 1) at → Good ts lvl start (apply (close_move (Some f.New) l role) (f.New ∷ fs) (a ∷ rs) es at)
   close_new a fs rs ds es l i at role sp o h st = go (nat_eq l 17) refl
     where
-      go : (b : Bool) → nat_eq l 17 ≡ b → Good ts lvl start (apply (if b then Wrong else Build (plain kd.New) 1 (After 16) false) (f.New ∷ fs) (a ∷ rs) es at)
+      go : (b : Bool) → nat_eq l 17 ≡ b → Good ts lvl start (apply (if b then Wrong else Build (bare kd.New) 1 (After 16) false) (f.New ∷ fs) (a ∷ rs) es at)
       go true e = tt
       go false e = behind_operand sp (new_new o (to_new ts l h (eqb-false l 17 e) st))
 
-  close_arrow : (n : ℕ) (parts : Roses) (a : Rose) (fs : List Frame) (rs rs' : List Rose) (ds es : List ℕ) (i m at : ℕ) → Spine ts lvl start fs rs ds i → Head ts parts i m → RoleAt ts m r.Arrow → SameLine ts m → n ≡ size parts → rs' ≡ pushed parts rs → NoRoleAt ts (m + 1) r.OpenBrace → Stands ts 3 a ds es (m + 1) at → Good ts lvl start (built (plain (kd.Arrow n false)) (After 3) fs es at (gather (n + 1) (a ∷ rs') none))
+  close_arrow : (n : ℕ) (parts : Roses) (a : Rose) (fs : List Frame) (rs rs' : List Rose) (ds es : List ℕ) (i m at : ℕ) → Spine ts lvl start fs rs ds i → Head ts parts i m → RoleAt ts m r.Arrow → SameLine ts m → n ≡ size parts → rs' ≡ pushed parts rs → NoRoleAt ts (m + 1) r.OpenBrace → Stands ts 3 a ds es (m + 1) at → Good ts lvl start (built (bare (kd.Arrow n false)) (After 3) fs es at (gather (n + 1) (a ∷ rs') none))
   close_arrow n parts a fs rs rs' ds es i m at sp p o q c g u st =
-      good_built (plain (kd.Arrow n false)) (After 3) fs rs es at _ (join parts (more a none))
+      good_built (bare (kd.Arrow n false)) (After 3) fs rs es at _ (join parts (more a none))
       (ap (λ y. gather y (a ∷ rs') none) (add-one n) ∙ ap (λ x. gather n x (more a none)) g ∙ gather_pushed parts 0 n rs (more a none) (omega arith))
       (subst (λ x. Behind ts lvl start fs (node (bare (kd.Arrow x false)) (join parts (more a none)) ∷ rs) es 3 at) (sym c) (behind_operand sp (arrow_value p o q u st)))
 
@@ -446,13 +451,13 @@ module _ (ts : List Spanned) (lvl : Level) (start : ℕ) where
   good_comma r.Close e (in_comma (under_setter ob) op o c y w k) = setter_end ob op o c w k (record { is = e })
   good_comma _ e (in_comma (under_setter ob) op o c y w k) = tt
 
-  head_at : (n : ℕ) (parts : Roses) (fs : List Frame) (rs rs' : List Rose) (ds : List ℕ) (i at : ℕ) (role : Role) (fresh : Bool) → role_at ts at ≡ role → fresh_at ts at ≡ fresh → Spine ts lvl start fs rs ds i → Head ts parts i at → n ≡ size parts → rs' ≡ pushed parts rs → Good ts lvl start (apply (head_move (Some (f.Head n)) role fresh) (f.Head n ∷ fs) rs' ds at)
+  head_at : (n : ℕ) (parts : Roses) (fs : List Frame) (rs rs' : List Rose) (ds : List ℕ) (i at : ℕ) (role : Role) (after_line : Bool) → role_at ts at ≡ role → after_line_at ts at ≡ after_line → Spine ts lvl start fs rs ds i → Head ts parts i at → n ≡ size parts → rs' ≡ pushed parts rs → Good ts lvl start (apply (head_move (Some (f.Head n)) role after_line) (f.Head n ∷ fs) rs' ds at)
   head_at n parts fs rs rs' ds i at r.Arrow true e q sp h c g = tt
   head_at n parts fs rs rs' ds i at r.Arrow false e q sp h c g = arrowed sp h (record { is = e }) (record { is = q }) c g refl
-  head_at n parts fs rs rs' ds i at _ fresh e q sp h c g = tt
+  head_at n parts fs rs rs' ds i at _ after_line e q sp h c g = tt
 
-  good_head : {fs : List Frame} {rs : List Rose} {ds : List ℕ} {at : ℕ} (role : Role) (fresh : Bool) → role_at ts at ≡ role → fresh_at ts at ≡ fresh → InHead ts lvl start fs rs ds at → Good ts lvl start (apply (head_move (top fs) role fresh) fs rs ds at)
-  good_head role fresh e q (in_head {n = n} {parts = parts} {fs = fs} {rs = rs} {rs' = rs'} {ds = ds} {i = i} {k = at} sp h c g) = head_at n parts fs rs rs' ds i at role fresh e q sp h c g
+  good_head : {fs : List Frame} {rs : List Rose} {ds : List ℕ} {at : ℕ} (role : Role) (after_line : Bool) → role_at ts at ≡ role → after_line_at ts at ≡ after_line → InHead ts lvl start fs rs ds at → Good ts lvl start (apply (head_move (top fs) role after_line) fs rs ds at)
+  good_head role after_line e q (in_head {n = n} {parts = parts} {fs = fs} {rs = rs} {rs' = rs'} {ds = ds} {i = i} {k = at} sp h c g) = head_at n parts fs rs rs' ds i at role after_line e q sp h c g
 
   good_title : {fs : List Frame} {rs : List Rose} {ds : List ℕ} {at : ℕ} (role : Role) → role_at ts at ≡ role → Titled ts lvl start fs rs ds at → Good ts lvl start (apply (title_move role) fs rs ds at)
   good_title {at = at} (r.Name n) e (title_read {fs = fs} {rs = rs} {ds = ds} {i = i} sp o k) =
@@ -481,7 +486,7 @@ module _ (ts : List Spanned) (lvl : Level) (start : ℕ) where
   object_end : {fs : List Frame} {rs : List Rose} {ds : List ℕ} {at : ℕ} (follow : Follow) → RoleAt ts at r.CloseBrace → Objects ts lvl start fs rs ds at → Good ts lvl start (apply (property_move (top fs) (Some (t.Mark m.CloseBrace)) follow) fs rs ds at)
   object_end {at = at} follow e (in_object {n = n} {fs = fs} {rs = rs} {rs' = rs'} {es = es} sp o c) =
       let p = end_properties c in
-      good_built ts lvl start (plain kd.ObjectLit) (After 18) fs rs es (at + 1) _ p.parts (ap (λ x. gather n x none) p.stack ∙ gathers p.parts 0 n rs (omega (arith, p.count))) (behind_operand sp (object o p.listed e))
+      good_built ts lvl start (bare kd.ObjectLit) (After 18) fs rs es (at + 1) _ p.parts (ap (λ x. gather n x none) p.stack ∙ gathers p.parts 0 n rs (omega (arith, p.count))) (behind_operand sp (object o p.listed e))
 
   good_mark : (fs : List Frame) (rs : List Rose) (ds : List ℕ) (at : ℕ) (mark : Mark) (follow : Follow) → token_at ts at ≡ Some (t.Mark mark) → Objects ts lvl start fs rs ds at → Good ts lvl start (apply (property_move (top fs) (Some (t.Mark mark)) follow) fs rs ds at)
   good_mark fs rs ds at m.OpenBracket follow e ob = in_computed ob (record { is = ap role_of e }) refl
@@ -535,14 +540,14 @@ module _ (ts : List Spanned) (lvl : Level) (start : ℕ) where
   item_at n a fs rs rs' ds es gs i k at r.Comma e sp o c d = in_object sp o (property_more c d (record { is = e }) refl refl)
   item_at n a fs rs rs' ds es gs i k at r.CloseBrace e sp o c d =
       let p = close_properties c (more a none) gs at (last_property d) in
-      good_built ts lvl start (plain kd.ObjectLit) (After 18) fs rs gs (at + 1) _ p.parts (ap (λ x. gather (n + 1) x none) p.stack ∙ gathers p.parts 0 (n + 1) rs (omega (arith, p.count))) (behind_operand sp (object o (properties p.listed) (record { is = e })))
+      good_built ts lvl start (bare kd.ObjectLit) (After 18) fs rs gs (at + 1) _ p.parts (ap (λ x. gather (n + 1) x none) p.stack ∙ gathers p.parts 0 (n + 1) rs (omega (arith, p.count))) (behind_operand sp (object o (properties p.listed) (record { is = e })))
   item_at n a fs rs rs' ds es gs i k at _ e sp o c d = tt
 
   good_item : {fs : List Frame} {rs : List Rose} {ds : List ℕ} {at : ℕ} (role : Role) → role_at ts at ≡ role → ItemRead ts lvl start fs rs ds at → Good ts lvl start (apply (item_move (top fs) role) fs rs ds at)
   good_item {at = at} role e (item_read {a = a} {es = gs} (in_object {n = n} {fs = fs} {rs = rs} {rs' = rs'} {ds = ds} {es = es} {i = i} {k = k} sp o c) d) = item_at n a fs rs rs' ds es gs i k at role e sp o c d
 
   -- a name behind a dot
-  word_read : {fs : List Frame} {rs : List Rose} {ds : List ℕ} {l at : ℕ} (n : StrId) → WordText (token_at ts at) n → Dotted ts lvl start fs rs ds l at → Good ts lvl start (apply (Suffix (titled kd.Member n) (After l)) fs rs ds at)
+  word_read : {fs : List Frame} {rs : List Rose} {ds : List ℕ} {l at : ℕ} (n : StrId) → WordText (token_at ts at) n → Dotted ts lvl start fs rs ds l at → Good ts lvl start (apply (Suffix (named kd.Member n) (After l)) fs rs ds at)
   word_read {at = at} n w (dotted {l = l'} {fs = fs} {a = a} {rs = rs} {es = es} sp u st o q) =
       subst (λ y. Behind ts lvl start fs (node (named kd.Member n) (more a none) ∷ rs) es l' (y + 1)) (sym q) (behind_operand sp (member u st o (subst (λ y. WordText (token_at ts y) n) q w)))
 
@@ -578,7 +583,7 @@ module _ (ts : List Spanned) (lvl : Level) (start : ℕ) where
 
   good_block : {fs : List Frame} {rs : List Rose} {ds : List ℕ} {count at : ℕ} → Blocked ts lvl start fs rs ds count at → Good ts lvl start (apply (block_move (top fs) count) fs rs ds at)
   good_block {at = at} (blocked {count = count} {body = body} {j = o} (braced {es = gs} {i = k} {k = l} (ready_arrow (arrowed {n = n} {parts = parts} {fs = fs} {rs = rs} {ds = ds} {i = i} {m = m} sp h a s cn g ek)) e el eg) st cb z y v) =
-      good_built ts lvl start (plain (kd.Arrow n true)) (After 3) fs rs gs at _ (join parts body)
+      good_built ts lvl start (bare (kd.Arrow n true)) (After 3) fs rs gs at _ (join parts body)
       (ap (λ x. gather (n + count + 0) x none) (y ∙ ap (pushed body) g) ∙ made_gathers none parts body 0 (n + count + 0) rs refl (omega (arith, cn, v)))
       (behind_operand sp (arrow_at n parts body ds gs i m k l o at h a s cn ek e el eg st cb z))
   good_block {at = at} (blocked {count = count} {body = body} {j = o} (braced {es = gs} {i = k} {k = l} (ready_made {maker = maker} {n = n} {keys = keys} {parts = parts} {fs = fs} {rs = rs} {ds = ds} {es = es} {i = i} {m = m} {j = j} un b u p c cn g ek) e el eg) st cb z y v) =
@@ -596,16 +601,16 @@ module _ (ts : List Spanned) (lvl : Level) (start : ℕ) where
   good_step fs rs ds mo.Open at g = good_header (role_at ts at) refl g
   good_step fs rs ds mo.Param at g = good_param (role_at ts at) refl g
   good_step fs rs ds mo.Comma at g = good_comma (role_at ts at) refl g
-  good_step fs rs ds mo.Arrow at g = good_head (role_at ts at) (fresh_at ts at) refl refl g
+  good_step fs rs ds mo.Arrow at g = good_head (role_at ts at) (after_line_at ts at) refl refl g
   good_step fs rs ds mo.Brace at g = good_brace (role_at ts at) refl g
   good_step fs rs ds mo.Property at g = good_property fs rs ds at (token_at ts at) (follow_at ts at) refl refl g
   good_step fs rs ds mo.Key at g = good_key (token_at ts at) refl g
   good_step fs rs ds mo.Keyed at g = good_keyed (role_at ts at) refl g
   good_step fs rs ds mo.Item at g = good_item (role_at ts at) refl g
-  good_step fs rs ds (mo.After l) at g = go (nat_lt l (hole (top fs))) refl (nat_lt (strength (role_at ts at) (fresh_at ts at)) (hole (top fs))) refl (nat_lt l (least_before (role_at ts at))) refl
+  good_step fs rs ds (mo.After l) at g = go (nat_lt l (hole (top fs))) refl (nat_lt (strength (role_at ts at) (after_line_at ts at)) (hole (top fs))) refl (nat_lt l (least_before (role_at ts at))) refl
     where
-      go : (a : Bool) → nat_lt l (hole (top fs)) ≡ a → (b : Bool) → nat_lt (strength (role_at ts at) (fresh_at ts at)) (hole (top fs)) ≡ b → (d : Bool) → nat_lt l (least_before (role_at ts at)) ≡ d → Good ts lvl start (apply (if a then Wrong else (if b then close_move (top fs) l (role_at ts at) else (if d then Wrong else taken_move (top fs) l (role_at ts at)))) fs rs ds at)
+      go : (a : Bool) → nat_lt l (hole (top fs)) ≡ a → (b : Bool) → nat_lt (strength (role_at ts at) (after_line_at ts at)) (hole (top fs)) ≡ b → (d : Bool) → nat_lt l (least_before (role_at ts at)) ≡ d → Good ts lvl start (apply (if a then Wrong else (if b then close_move (top fs) l (role_at ts at) else (if d then Wrong else taken_move (top fs) l (role_at ts at)))) fs rs ds at)
       go true p b q d o = tt
       go false p true q d o = good_close (role_at ts at) refl (ltb-false l (hole (top fs)) p) g
       go false p false q true o = tt
-      go false p false q false o = good_taken ts lvl start (role_at ts at) (fresh_at ts at) refl refl (ltb-false (strength (role_at ts at) (fresh_at ts at)) (hole (top fs)) q) (ltb-false l (least_before (role_at ts at)) o) g
+      go false p false q false o = good_taken ts lvl start (role_at ts at) (after_line_at ts at) refl refl (ltb-false (strength (role_at ts at) (after_line_at ts at)) (hole (top fs)) q) (ltb-false l (least_before (role_at ts at)) o) g

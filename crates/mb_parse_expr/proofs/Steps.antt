@@ -16,19 +16,19 @@ use Rattle.mb_tree.specs.declared.kind.Kind.{Kind}
 use Rattle.mb_tree.specs.declared.kind.Kind.TheVariants as k
 use Rattle.mb_tree.specs.declared.kind.Sign.{Sign}
 use Rattle.mb_tree.specs.declared.kind.Sign.TheVariants as s
-use Rattle.mb_tree.specs.Roses.{Rose, Roses, node, none, more, bare, named}
-use Rattle.mb_tree.specs.Operands.{size, join, pushed, Gathered, Got, gather}
+use Rattle.mb_tree.specs.Roses.{Rose, Roses, node, none, more, bare, named, numbered, size, join}
+use Rattle.mb_tree.specs.machine.Operands.{pushed, Gathered, Got, gather}
 use Rattle.mb_tree.proofs.Written.{gather_pushed, gathers}
-use Rattle.mb_parse_expr.specs.declared.role.Role.{Role}
-use Rattle.mb_parse_expr.specs.declared.role.Role.TheVariants as r
+use Rattle.mb_grammar.specs.declared.role.Role.{Role}
+use Rattle.mb_grammar.specs.declared.role.Role.TheVariants as r
 use Rattle.mb_parse_expr.specs.declared.role.Follow.{Follow}
 use Rattle.mb_parse_expr.specs.declared.role.Follow.TheVariants as fo
-use Rattle.mb_parse_expr.specs.declared.machine.Level.{Level}
-use Rattle.mb_parse_expr.specs.declared.machine.Level.TheVariants as lv
+use Rattle.mb_grammar.specs.declared.level.Level.{Level}
+use Rattle.mb_grammar.specs.declared.level.Level.TheVariants as lv
 use Rattle.mb_tree.specs.declared.tree.Label.{Label}
-use Rattle.mb_parse_expr.specs.declared.machine.Property.{Property}
-use Rattle.mb_parse_expr.specs.declared.machine.Maker.{Maker}
-use Rattle.mb_parse_expr.specs.declared.machine.Maker.TheVariants as mk
+use Rattle.mb_grammar.specs.declared.function.Property.{Property}
+use Rattle.mb_grammar.specs.declared.function.Maker.{Maker}
+use Rattle.mb_grammar.specs.declared.function.Maker.TheVariants as mk
 use Rattle.mb_parse_expr.specs.declared.machine.Frame.{Frame}
 use Rattle.mb_parse_expr.specs.declared.machine.Frame.TheVariants as f
 use Rattle.mb_parse_expr.specs.declared.machine.Mode.{Mode}
@@ -36,10 +36,14 @@ use Rattle.mb_parse_expr.specs.declared.machine.Mode.TheVariants as mo
 use Rattle.mb_parse_expr.specs.declared.machine.Mode.TheVariants.{Operand, Body, After, Block}
 use Rattle.mb_parse_expr.specs.declared.machine.Move.{Move}
 use Rattle.mb_parse_expr.specs.declared.machine.Move.TheVariants.{Leaf, Enter, Begin, Swap, Build, Suffix, Turn, Pause, Ended, Wrong}
-use Rattle.mb_parse_expr.specs.Roles.{word_role, mark_role, role_of, follow_of, token_at, role_at, fresh_at, RoleAt, NoRoleAt, SameLine}
-use Rattle.mb_parse_expr.specs.Grammar.{level_of, plain, titled, counted, named_property, whole_property, computed_property, value_label, made_label, IsFunction, IsProperty, WordText, name, soft, reserved, param, Names, last_name, name_and, Params, no_params, params, params_comma, MakerParams, of_function, of_method, of_getter, of_setter, Head, one, many, Stands, lift, left_new, left_call, new_member, seq, assign, compound, arrow_value, arrow_block, cond, or, and_also, binary, unary, negative, before, behind, new_new, new_args, member, index, call, this, name_of, number, text, literal, array, object, function, group, Listed, last_of, then_of, Elements, nothing, elements, elements_comma, KeyOf, key_word, key_text, key_number, key_computed, Before, unnamed, with_name, method, getter, setter, Made, made, PropertyOf, valued, shorthand, maker_of, PropertyList, last_property, then_property, Properties, no_property, properties, properties_comma, Statements}
-use Rattle.mb_parse_expr.specs.Machine.{extra_of, made_extra, made_mode, hole, strength, least_before, value_move, taken_move, accessor_move, close_move, after_move, param_move, comma_move, property_move, key_move, word_move, name_move, body_move, move_of, ahead_at, follow_at, State, Going, Ends, built, top, apply, move_at, Leads, here, after, answered}
-use Rattle.mb_parse_expr.specs.Covers.{IsEnd, least_of}
+use Rattle.mb_grammar.specs.Tokens.{word_role, mark_role, role_of, token_at, role_at, after_line_at, RoleAt, NoRoleAt, SameLine}
+use Rattle.mb_parse_expr.specs.machine.Machine.{follow_of, extra_of, made_extra, made_mode, hole, strength, least_before, value_move, taken_move, accessor_move, close_move, after_move, param_move, comma_move, property_move, key_move, word_move, name_move, body_move, move_of, ahead_at, follow_at, State, Going, Ends, built, apply, move_at, Leads, here, after, answered}
+use Rattle.mb_grammar.specs.Nonterminals.{level_of}
+use Rattle.mb_grammar.specs.Grammar.{Stands, lift, left_new, left_call, new_member, seq, assign, compound, arrow_value, arrow_block, cond, or, and_also, binary, unary, negative, before, behind, new_new, new_args, member, index, call, this, name_of, number, text, literal, array, object, function, group, Listed, last_of, then_of, Elements, nothing, elements, elements_comma, KeyOf, key_word, key_text, key_number, key_computed, Before, unnamed, with_name, method, getter, setter, Made, made, PropertyOf, valued, shorthand, maker_of, PropertyList, last_property, then_property, Properties, no_property, properties, properties_comma, Statements}
+use Rattle.mb_grammar.specs.Labels.{named_property, whole_property, computed_property, value_label, made_label, IsFunction, IsProperty, param}
+use Rattle.mb_grammar.specs.Parts.{WordText, name, soft, reserved, Names, last_name, name_and, Params, no_params, params, params_comma, MakerParams, of_function, of_method, of_getter, of_setter, Head, one, many}
+use Rattle.mb_tree.specs.machine.Stack.{top}
+use Rattle.mb_grammar.specs.Script.{IsEnd, least_of}
 use Rattle.mb_parse_expr.proofs.Ahead.{name_alone, group_alone, head_ahead}
 
 -- numbers
@@ -58,45 +62,45 @@ sign_range s.Minus = (omega arith, omega arith)
 sign_range _ = (omega arith, omega arith)
 
 -- no token is of a strength between two levels
-gap4 : (role : Role) (fresh : Bool) → strength role fresh ≤ 4 → strength role fresh < 3
-gap4 (r.Infix sign) fresh h = absurd (omega (arith, (sign_range sign).0))
+gap4 : (role : Role) (after_line : Bool) → strength role after_line ≤ 4 → strength role after_line < 3
+gap4 (r.Infix sign) after_line h = absurd (omega (arith, (sign_range sign).0))
 gap4 (r.Step plus) true h = omega arith
 gap4 (r.Step plus) false h = absurd (omega arith)
 gap4 r.Arrow true h = omega arith
 gap4 r.Arrow false h = absurd (omega arith)
-gap4 _ fresh h = omega arith
+gap4 _ after_line h = omega arith
 
-gap6 : (role : Role) (fresh : Bool) → strength role fresh ≤ 6 → strength role fresh < 6
-gap6 (r.Infix sign) fresh h = absurd (omega (arith, (sign_range sign).0))
+gap6 : (role : Role) (after_line : Bool) → strength role after_line ≤ 6 → strength role after_line < 6
+gap6 (r.Infix sign) after_line h = absurd (omega (arith, (sign_range sign).0))
 gap6 (r.Step plus) true h = omega arith
 gap6 (r.Step plus) false h = absurd (omega arith)
 gap6 r.Arrow true h = omega arith
 gap6 r.Arrow false h = absurd (omega arith)
-gap6 _ fresh h = omega arith
+gap6 _ after_line h = omega arith
 
-gap8 : (role : Role) (fresh : Bool) → strength role fresh ≤ 8 → strength role fresh < 8
-gap8 (r.Infix sign) fresh h = absurd (omega (arith, (sign_range sign).0))
+gap8 : (role : Role) (after_line : Bool) → strength role after_line ≤ 8 → strength role after_line < 8
+gap8 (r.Infix sign) after_line h = absurd (omega (arith, (sign_range sign).0))
 gap8 (r.Step plus) true h = omega arith
 gap8 (r.Step plus) false h = absurd (omega arith)
 gap8 r.Arrow true h = omega arith
 gap8 r.Arrow false h = absurd (omega arith)
-gap8 _ fresh h = omega arith
+gap8 _ after_line h = omega arith
 
-gap14 : (role : Role) (fresh : Bool) → strength role fresh ≤ 14 → strength role fresh < 14
-gap14 (r.Infix sign) fresh h = omega (arith, (sign_range sign).1)
+gap14 : (role : Role) (after_line : Bool) → strength role after_line ≤ 14 → strength role after_line < 14
+gap14 (r.Infix sign) after_line h = omega (arith, (sign_range sign).1)
 gap14 (r.Step plus) true h = omega arith
 gap14 (r.Step plus) false h = absurd (omega arith)
 gap14 r.Arrow true h = omega arith
 gap14 r.Arrow false h = absurd (omega arith)
-gap14 _ fresh h = omega arith
+gap14 _ after_line h = omega arith
 
-gap16 : (role : Role) (fresh : Bool) → strength role fresh ≤ 16 → strength role fresh < 16
-gap16 (r.Infix sign) fresh h = omega (arith, (sign_range sign).1)
+gap16 : (role : Role) (after_line : Bool) → strength role after_line ≤ 16 → strength role after_line < 16
+gap16 (r.Infix sign) after_line h = omega (arith, (sign_range sign).1)
 gap16 (r.Step plus) true h = omega arith
 gap16 (r.Step plus) false h = omega arith
 gap16 r.Arrow true h = omega arith
 gap16 r.Arrow false h = absurd (omega arith)
-gap16 _ fresh h = omega arith
+gap16 _ after_line h = omega arith
 
 pub hole_range : (o : Option Frame) → (1 ≤ hole o) × (hole o ≤ 16)
 hole_range (Some (f.Start lv.Expr)) = (omega arith, omega arith)
@@ -113,20 +117,20 @@ level_bound _ = omega arith
 
 -- moves
 
-shifts : (o : Option Frame) (l : ℕ) (role : Role) (fresh : Bool) → hole o ≤ l → hole o ≤ strength role fresh → least_before role ≤ l → after_move o l role fresh ≡ taken_move o l role
-shifts o l role fresh h g b = rw (le-ltb l (hole o) h, le-ltb (strength role fresh) (hole o) g, le-ltb l (least_before role) b) refl
+shifts : (o : Option Frame) (l : ℕ) (role : Role) (after_line : Bool) → hole o ≤ l → hole o ≤ strength role after_line → least_before role ≤ l → after_move o l role after_line ≡ taken_move o l role
+shifts o l role after_line h g b = rw (le-ltb l (hole o) h, le-ltb (strength role after_line) (hole o) g, le-ltb l (least_before role) b) refl
 
-closes : (o : Option Frame) (l : ℕ) (role : Role) (fresh : Bool) → hole o ≤ l → strength role fresh < hole o → after_move o l role fresh ≡ close_move o l role
-closes o l role fresh h g = rw (le-ltb l (hole o) h, lt-ltb (strength role fresh) (hole o) g) refl
+closes : (o : Option Frame) (l : ℕ) (role : Role) (after_line : Bool) → hole o ≤ l → strength role after_line < hole o → after_move o l role after_line ≡ close_move o l role
+closes o l role after_line h g = rw (le-ltb l (hole o) h, lt-ltb (strength role after_line) (hole o) g) refl
 
 opens_args : (o : Option Frame) (l : ℕ) → hole o ≤ 15 → taken_move o l r.Open ≡ Enter (f.Args 0) Operand
 opens_args None l h = refl
 opens_args (Some f.New) l h = absurd (omega arith)
 opens_args (Some _) l h = refl
 
-seq_closes : (n l : ℕ) (role : Role) (fresh : Bool) → strength role fresh ≤ 1 → close_move (Some (f.Seq n)) l role ≡ Build (plain k.Seq) (n + 1) (After 1) false
-seq_closes n l r.Comma fresh h = absurd (omega arith)
-seq_closes n l _ fresh h = refl
+seq_closes : (n l : ℕ) (role : Role) (after_line : Bool) → strength role after_line ≤ 1 → close_move (Some (f.Seq n)) l role ≡ Build (bare k.Seq) (n + 1) (After 1) false
+seq_closes n l r.Comma after_line h = absurd (omega arith)
+seq_closes n l _ after_line h = refl
 
 pub no_brace : (o : Option Frame) (role : Role) (ahead : Bool) → (role ≡ r.OpenBrace → ⊥) → body_move o role ahead ≡ value_move o role ahead
 no_brace o r.OpenBrace ahead h = absurd (h refl)
@@ -179,13 +183,13 @@ brace_token (Some (t.Mark w)) e = ap (λ x. Some (t.Mark x)) (mark_brace w e)
 brace_token _ e = cc
 
 -- a name that stands for its value too
-shorthand_move : (o : Option Frame) (token : Option Token) (n : StrId) → role_of token ≡ r.Name n → property_move o token fo.Ends ≡ Begin (titled k.Name n) (f.Value (named_property n)) (After 18)
+shorthand_move : (o : Option Frame) (token : Option Token) (n : StrId) → role_of token ≡ r.Name n → property_move o token fo.Ends ≡ Begin (named k.Name n) (f.Value (named_property n)) (After 18)
 shorthand_move o (Some (t.Name x)) n e =
     let q : x ≡ n = cc in
-    ap (λ y. Begin (titled k.Name y) (f.Value (named_property y)) (After 18)) q
+    ap (λ y. Begin (named k.Name y) (f.Value (named_property y)) (After 18)) q
 shorthand_move o (Some (t.Soft u x)) n e =
     let q : x ≡ n = cc in
-    ap (λ y. Begin (titled k.Name y) (f.Value (named_property y)) (After 18)) q
+    ap (λ y. Begin (named k.Name y) (f.Value (named_property y)) (After 18)) q
 shorthand_move o (Some (t.Reserved w x)) n e = absurd (word_not_name w n e)
 shorthand_move o (Some (t.Mark w)) n e = absurd (mark_not_name w n e)
 shorthand_move o _ n e = cc
@@ -200,7 +204,7 @@ word_accessor u _ n name = refl
 word_accessor u _ n soft = refl
 word_accessor u _ n reserved = refl
 
-word_member : (l : ℕ) (token : Option Token) (n : StrId) → WordText token n → word_move l token ≡ Suffix (titled k.Member n) (After l)
+word_member : (l : ℕ) (token : Option Token) (n : StrId) → WordText token n → word_move l token ≡ Suffix (named k.Member n) (After l)
 word_member l _ n name = refl
 word_member l _ n soft = refl
 word_member l _ n reserved = refl
@@ -214,9 +218,9 @@ word_other _ n (reserved {w = w}) = word_follow w
 record Bracket (F : ℕ → Frame) (C : Role) (kind : Kind) (extra level : ℕ) : Type 0 where
   hole_is : (n : ℕ) → hole (Some (F n)) ≡ 3
   comma : (n l : ℕ) → close_move (Some (F n)) l r.Comma ≡ Swap (F (n + 1)) Operand
-  full : (n l : ℕ) → close_move (Some (F n)) l C ≡ Build (plain kind) (n + suc extra) (After level) true
-  empty : (n : ℕ) (ahead : Bool) → value_move (Some (F n)) C ahead ≡ Build (plain kind) (n + extra) (After level) true
-  weak : (fresh : Bool) → strength C fresh ≡ 0
+  full : (n l : ℕ) → close_move (Some (F n)) l C ≡ Build (bare kind) (n + suc extra) (After level) true
+  empty : (n : ℕ) (ahead : Bool) → value_move (Some (F n)) C ahead ≡ Build (bare kind) (n + extra) (After level) true
+  weak : (after_line : Bool) → strength C after_line ≡ 0
 
 abbrev args : Bracket f.Args r.Close k.Call 1 17
 args = record { hole_is = λ n. refl; comma = λ n l. refl; full = λ n l. refl; empty = λ n b. refl; weak = λ b. refl }
@@ -231,7 +235,7 @@ items = record {
   full = λ n l. refl;
   empty = λ n b.
       let q : n ≡ n + 0 = omega arith in
-      ap (λ x. Build (plain k.ArrayLit) x (After 18) true) q;
+      ap (λ x. Build (bare k.ArrayLit) x (After 18) true) q;
   weak = λ b. refl;
 }
 
@@ -239,7 +243,7 @@ items = record {
 record Lists (maker : Maker) : Type 0 where
   frame : ℕ → Frame
   mode : Mode
-  one_more : (n : ℕ) (x : StrId) → param_move (Some (f.Params maker n)) (r.Name x) ≡ Leaf (titled k.Param x) mo.Comma
+  one_more : (n : ℕ) (x : StrId) → param_move (Some (f.Params maker n)) (r.Name x) ≡ Leaf (named k.Param x) mo.Comma
   comma : (n : ℕ) → comma_move (Some (f.Params maker n)) r.Comma ≡ Swap (f.Params maker (n + 1)) mo.Param
   empty : (n : ℕ) → param_move (Some (f.Params maker n)) r.Close ≡ Swap (frame n) mode
   full : (n : ℕ) → comma_move (Some (f.Params maker n)) r.Close ≡ Swap (frame (n + 1)) mode
@@ -300,9 +304,9 @@ module _ (ts : List Spanned) where
   leads_on (answered b e p) q = answered b e (leads_on p q)
 
   -- one step, where the token's role is known
-  go : (fs : List Frame) (rs : List Rose) (ds : List ℕ) (mode : Mode) (at : ℕ) (c : State) (role : Role) (move : Move) → RoleAt ts at role → move_of (top fs) mode (token_at ts at) role (fresh_at ts at) (ahead_at ts at) (follow_at ts at) ≡ move → Leads ts (apply move fs rs ds at) c → Leads ts (Going fs rs ds mode at) c
+  go : (fs : List Frame) (rs : List Rose) (ds : List ℕ) (mode : Mode) (at : ℕ) (c : State) (role : Role) (move : Move) → RoleAt ts at role → move_of (top fs) mode (token_at ts at) role (after_line_at ts at) (ahead_at ts at) (follow_at ts at) ≡ move → Leads ts (apply move fs rs ds at) c → Leads ts (Going fs rs ds mode at) c
   go fs rs ds mode at c role move e h l =
-      let q : apply (move_at ts fs mode at) fs rs ds at ≡ apply move fs rs ds at = ap (λ x. apply (move_of (top fs) mode (token_at ts at) x (fresh_at ts at) (ahead_at ts at) (follow_at ts at)) fs rs ds at) e.is ∙ ap (λ x. apply x fs rs ds at) h in
+      let q : apply (move_at ts fs mode at) fs rs ds at ≡ apply move fs rs ds at = ap (λ x. apply (move_of (top fs) mode (token_at ts at) x (after_line_at ts at) (ahead_at ts at) (follow_at ts at)) fs rs ds at) e.is ∙ ap (λ x. apply x fs rs ds at) h in
       after (subst (λ x. Leads ts x c) (sym q) l)
 
   -- one step, where the move is known
@@ -319,7 +323,7 @@ module _ (ts : List Spanned) where
   -- parameters
 
   name_step : {maker : Maker} (u : Lists maker) (n : ℕ) (fs : List Frame) (rs : List Rose) (ds : List ℕ) (i : ℕ) (x : StrId) (c : State) → RoleAt ts i (r.Name x) → Leads ts (Going (f.Params maker n ∷ fs) (param x ∷ rs) ds mo.Comma (i + 1)) c → Leads ts (Going (f.Params maker n ∷ fs) rs ds mo.Param i) c
-  name_step {maker = maker} u n fs rs ds i x c e l = go (f.Params maker n ∷ fs) rs ds mo.Param i c (r.Name x) (Leaf (titled k.Param x) mo.Comma) e (u.one_more n x) l
+  name_step {maker = maker} u n fs rs ds i x c e l = go (f.Params maker n ∷ fs) rs ds mo.Param i c (r.Name x) (Leaf (named k.Param x) mo.Comma) e (u.one_more n x) l
 
   comma_step : {maker : Maker} (u : Lists maker) (n : ℕ) (fs : List Frame) (rs : List Rose) (ds : List ℕ) (i : ℕ) (c : State) → RoleAt ts i r.Comma → Leads ts (Going (f.Params maker (n + 1) ∷ fs) rs ds mo.Param (i + 1)) c → Leads ts (Going (f.Params maker n ∷ fs) rs ds mo.Comma i) c
   comma_step {maker = maker} u n fs rs ds i c e l = go (f.Params maker n ∷ fs) rs ds mo.Comma i c r.Comma (Swap (f.Params maker (n + 1)) mo.Param) e (u.comma n) l
@@ -345,7 +349,7 @@ module _ (ts : List Spanned) where
 
   reads_head : {parts : Roses} {i m : ℕ} → Head ts parts i m → RoleAt ts m r.Arrow → SameLine ts m → (fs : List Frame) (rs : List Rose) (ds : List ℕ) → Leads ts (Going fs rs ds Operand i) (Going (f.Made mk.Arrow (size parts) ∷ fs) (pushed parts rs) ds Body (m + 1))
   reads_head {i = i} (one {n = x} e) a l fs rs ds =
-      go fs rs ds Operand i _ (r.Name x) (Begin (titled k.Param x) (f.Head 1) mo.Arrow) e (ap (λ b. if b then Begin (titled k.Param x) (f.Head 1) mo.Arrow else Leaf (titled k.Name x) (After 18)) (head_ahead ts (one e) a l))
+      go fs rs ds Operand i _ (r.Name x) (Begin (named k.Param x) (f.Head 1) mo.Arrow) e (ap (λ b. if b then Begin (named k.Param x) (f.Head 1) mo.Arrow else Leaf (named k.Name x) (After 18)) (head_ahead ts (one e) a l))
       (arrow_step 1 fs (param x ∷ rs) ds (i + 1) a l)
   reads_head {i = i} (many {parts = parts} {j = j} o p q) a l fs rs ds =
       go fs rs ds Operand i _ r.Open (Enter (f.Params mk.Arrow 0) mo.Param) o (ap (λ b. if b then Enter (f.Params mk.Arrow 0) mo.Param else Enter f.Group Operand) (head_ahead ts (many o p q) a l))
@@ -356,7 +360,7 @@ module _ (ts : List Spanned) where
   at_built label mode fs rs ds at got parts e = subst (λ g. Leads ts (built label mode fs ds at g) (Going fs (node label parts ∷ rs) ds mode at)) (sym e) here
 
   -- a body in braces, behind parameters
-  reads_block : {maker : Maker} (keys parts : Roses) {body : Roses} {i j : ℕ} (mode : Mode) (fs : List Frame) (rs : List Rose) (ds : List ℕ) → made_extra maker ≡ size keys → ((ahead : Bool) (follow : Follow) → move_of (Some (f.Made maker (size parts))) mode (token_at ts i) r.OpenBrace (fresh_at ts i) ahead follow ≡ Pause) → RoleAt ts i r.OpenBrace → Statements ts body (i + 1) j → RoleAt ts j r.CloseBrace
+  reads_block : {maker : Maker} (keys parts : Roses) {body : Roses} {i j : ℕ} (mode : Mode) (fs : List Frame) (rs : List Rose) (ds : List ℕ) → made_extra maker ≡ size keys → ((ahead : Bool) (follow : Follow) → move_of (Some (f.Made maker (size parts))) mode (token_at ts i) r.OpenBrace (after_line_at ts i) ahead follow ≡ Pause) → RoleAt ts i r.OpenBrace → Statements ts body (i + 1) j → RoleAt ts j r.CloseBrace
       → Leads ts (Going (f.Made maker (size parts) ∷ fs) (pushed parts (pushed keys rs)) ds mode i) (Going fs (node (made_label maker (size parts)) (join keys (join parts body)) ∷ rs) ((i + 1) ∷ ds) (made_mode maker) (j + 1))
   reads_block {maker = maker} keys parts {body = body} {i = i} {j = j} mode fs rs ds x p o b c =
       let n = size parts in
@@ -376,15 +380,15 @@ module _ (ts : List Spanned) where
       go (f.Params (mk.Getter y) 0 ∷ fs) (pushed keys rs) ds mo.Param n _ r.Close (Swap (f.Made (mk.Getter y) 0) mo.Brace) c refl
       (reads_block keys none mo.Brace fs rs ds x (λ a g. refl) b s q)
   reads_rest keys {i = i} (of_setter {p = y} {n = v} e) c b s q x fs rs ds =
-      go (f.Params (mk.Setter y) 0 ∷ fs) (pushed keys rs) ds mo.Param i _ (r.Name v) (Leaf (titled k.Param v) mo.Comma) e refl
+      go (f.Params (mk.Setter y) 0 ∷ fs) (pushed keys rs) ds mo.Param i _ (r.Name v) (Leaf (named k.Param v) mo.Comma) e refl
       (go (f.Params (mk.Setter y) 0 ∷ fs) (param v ∷ pushed keys rs) ds mo.Comma (i + 1) _ r.Close (Swap (f.Made (mk.Setter y) 1) mo.Brace) c refl
       (reads_block keys (more (param v) none) mo.Brace fs rs ds x (λ a g. refl) b s q))
 
   -- a token that ends a property
-  ends_weak : (role : Role) (fresh : Bool) → follow_of role ≡ fo.Ends → strength role fresh < 3
-  ends_weak r.Comma fresh e = omega arith
-  ends_weak r.CloseBrace fresh e = omega arith
-  ends_weak _ fresh e = cc
+  ends_weak : (role : Role) (after_line : Bool) → follow_of role ≡ fo.Ends → strength role after_line < 3
+  ends_weak r.Comma after_line e = omega arith
+  ends_weak r.CloseBrace after_line e = omega arith
+  ends_weak _ after_line e = cc
 
   key_other : {p : Property} {keys : Roses} {ds es : List ℕ} {i j : ℕ} → KeyOf ts p keys ds es i j → follow_of (role_at ts i) ≡ fo.Other
   key_other {i = i} (key_word {n = n} w) = word_other (token_at ts i) n w
@@ -398,7 +402,7 @@ module _ (ts : List Spanned) where
     steps : Leads ts (Going (f.Object n ∷ fs) rs ds mo.Property i) (Going (f.Object count ∷ fs) (pushed parts rs) es mo.Item j)
 
   mutual
-    pub reads : {l : ℕ} {a : Rose} {ds es : List ℕ} {i j : ℕ} → Stands ts l a ds es i j → (fs : List Frame) (rs : List Rose) → hole (top fs) ≤ l → (l ≡ 17 → hole (top fs) ≤ 15) → strength (role_at ts j) (fresh_at ts j) ≤ l → Reads ts l a ds es i j fs rs
+    pub reads : {l : ℕ} {a : Rose} {ds es : List ℕ} {i j : ℕ} → Stands ts l a ds es i j → (fs : List Frame) (rs : List Rose) → hole (top fs) ≤ l → (l ≡ 17 → hole (top fs) ≤ 15) → strength (role_at ts j) (after_line_at ts j) ≤ l → Reads ts l a ds es i j fs rs
     reads (lift u d) fs rs h x w =
         let q = reads d fs rs (omega arith) (λ e. omega arith) (omega arith) in
         record { level = q.level; at_least = omega (arith, q.at_least); exact = λ g e. omega arith; steps = q.steps }
@@ -419,10 +423,10 @@ module _ (ts : List Spanned) where
           at_least = omega arith;
           exact = λ g u. omega arith;
           steps = leads_on p.steps
-              (go fs (a ∷ rs) es (After p.level) m _ r.Comma (Enter (f.Seq 1) Operand) e (shifts (top fs) p.level r.Comma (fresh_at ts m) (omega (arith, p.at_least)) (omega arith) p.at_least)
+              (go fs (a ∷ rs) es (After p.level) m _ r.Comma (Enter (f.Seq 1) Operand) e (shifts (top fs) p.level r.Comma (after_line_at ts m) (omega (arith, p.at_least)) (omega arith) p.at_least)
               (leads_on q.steps
-              (go (f.Seq q.count ∷ fs) (pushed parts (a ∷ rs)) gs (After q.level) j _ (role_at ts j) (Build (plain k.Seq) (q.count + 1) (After 1) false) (its_role j) (closes (Some (f.Seq q.count)) q.level (role_at ts j) (fresh_at ts j) q.at_least (omega arith) ∙ seq_closes q.count q.level (role_at ts j) (fresh_at ts j) w)
-              (at_built (plain k.Seq) (After 1) fs rs gs j _ (more a parts) (gathers parts 1 (q.count + 1) (a ∷ rs) (omega (arith, q.counted)))))));
+              (go (f.Seq q.count ∷ fs) (pushed parts (a ∷ rs)) gs (After q.level) j _ (role_at ts j) (Build (bare k.Seq) (q.count + 1) (After 1) false) (its_role j) (closes (Some (f.Seq q.count)) q.level (role_at ts j) (after_line_at ts j) q.at_least (omega arith) ∙ seq_closes q.count q.level (role_at ts j) (after_line_at ts j) w)
+              (at_built (bare k.Seq) (After 1) fs rs gs j _ (more a parts) (gathers parts 1 (q.count + 1) (a ∷ rs) (omega (arith, q.counted)))))));
         }
     reads {j = j} (assign {a = a} {b = b} {es = es} {gs = gs} {m = m} d e d') fs rs h x w =
         let p = reads d fs rs (omega arith) (λ q. omega arith) (rw e.is (omega arith)) in
@@ -432,9 +436,9 @@ module _ (ts : List Spanned) where
           at_least = omega arith;
           exact = λ g u. omega arith;
           steps = leads_on p.steps
-              (go fs (a ∷ rs) es (After p.level) m _ r.Becomes (Enter f.Becomes Operand) e (shifts (top fs) p.level r.Becomes (fresh_at ts m) (omega (arith, p.at_least)) (omega arith) p.at_least)
+              (go fs (a ∷ rs) es (After p.level) m _ r.Becomes (Enter f.Becomes Operand) e (shifts (top fs) p.level r.Becomes (after_line_at ts m) (omega (arith, p.at_least)) (omega arith) p.at_least)
               (leads_on q.steps
-              (go (f.Becomes ∷ fs) (b ∷ a ∷ rs) gs (After q.level) j _ (role_at ts j) (Build (plain k.Assign) 2 (After 3) false) (its_role j) (closes (Some f.Becomes) q.level (role_at ts j) (fresh_at ts j) q.at_least (gap4 (role_at ts j) (fresh_at ts j) (omega arith))) here)));
+              (go (f.Becomes ∷ fs) (b ∷ a ∷ rs) gs (After q.level) j _ (role_at ts j) (Build (bare k.Assign) 2 (After 3) false) (its_role j) (closes (Some f.Becomes) q.level (role_at ts j) (after_line_at ts j) q.at_least (gap4 (role_at ts j) (after_line_at ts j) (omega arith))) here)));
         }
     reads {j = j} (compound {sign = sign} {a = a} {b = b} {es = es} {gs = gs} {m = m} d e d') fs rs h x w =
         let p = reads d fs rs (omega arith) (λ q. omega arith) (rw e.is (omega arith)) in
@@ -444,9 +448,9 @@ module _ (ts : List Spanned) where
           at_least = omega arith;
           exact = λ g u. omega arith;
           steps = leads_on p.steps
-              (go fs (a ∷ rs) es (After p.level) m _ (r.Compound sign) (Enter (f.Compound sign) Operand) e (shifts (top fs) p.level (r.Compound sign) (fresh_at ts m) (omega (arith, p.at_least)) (omega arith) p.at_least)
+              (go fs (a ∷ rs) es (After p.level) m _ (r.Compound sign) (Enter (f.Compound sign) Operand) e (shifts (top fs) p.level (r.Compound sign) (after_line_at ts m) (omega (arith, p.at_least)) (omega arith) p.at_least)
               (leads_on q.steps
-              (go (f.Compound sign ∷ fs) (b ∷ a ∷ rs) gs (After q.level) j _ (role_at ts j) (Build (plain (k.Compound sign)) 2 (After 3) false) (its_role j) (closes (Some (f.Compound sign)) q.level (role_at ts j) (fresh_at ts j) q.at_least (gap4 (role_at ts j) (fresh_at ts j) (omega arith))) here)));
+              (go (f.Compound sign ∷ fs) (b ∷ a ∷ rs) gs (After q.level) j _ (role_at ts j) (Build (bare (k.Compound sign)) 2 (After 3) false) (its_role j) (closes (Some (f.Compound sign)) q.level (role_at ts j) (after_line_at ts j) q.at_least (gap4 (role_at ts j) (after_line_at ts j) (omega arith))) here)));
         }
     reads {ds = ds} {es = es} {j = j} (arrow_value {parts = parts} {b = b} {m = m} p e l o d) fs rs h x w =
         let n = size parts in
@@ -457,8 +461,8 @@ module _ (ts : List Spanned) where
           exact = λ g u. omega arith;
           steps = leads_on (reads_head p e l fs rs ds)
               (leads_on (from_body o q.steps)
-              (go (f.Made mk.Arrow n ∷ fs) (b ∷ pushed parts rs) es (After q.level) j _ (role_at ts j) (Build (plain (k.Arrow n false)) (n + 1) (After 3) false) (its_role j) (closes (Some (f.Made mk.Arrow n)) q.level (role_at ts j) (fresh_at ts j) q.at_least (gap4 (role_at ts j) (fresh_at ts j) (omega arith)))
-              (at_built (plain (k.Arrow n false)) (After 3) fs rs es j _ (join parts (more b none)) (ap (λ y. gather y (b ∷ pushed parts rs) none) (add-one n) ∙ gather_pushed parts 0 n rs (more b none) (omega arith)))));
+              (go (f.Made mk.Arrow n ∷ fs) (b ∷ pushed parts rs) es (After q.level) j _ (role_at ts j) (Build (bare (k.Arrow n false)) (n + 1) (After 3) false) (its_role j) (closes (Some (f.Made mk.Arrow n)) q.level (role_at ts j) (after_line_at ts j) q.at_least (gap4 (role_at ts j) (after_line_at ts j) (omega arith)))
+              (at_built (bare (k.Arrow n false)) (After 3) fs rs es j _ (join parts (more b none)) (ap (λ y. gather y (b ∷ pushed parts rs) none) (add-one n) ∙ gather_pushed parts 0 n rs (more b none) (omega arith)))));
         }
     reads (arrow_block {parts = parts} {body = body} {ds = ds} {m = m} {j = j} p e l o b c) fs rs h x w =
         record {
@@ -470,17 +474,17 @@ module _ (ts : List Spanned) where
     reads {j = j} (cond {a = a} {b = b} {c = c} {es = es} {gs = gs} {hs = hs} {m = m} {n = n} d e d' e' d'') fs rs h x w =
         let p = reads d fs rs (omega arith) (λ q. omega arith) (rw e.is (omega arith)) in
         let q = reads d' (f.Test ∷ fs) (a ∷ rs) (omega arith) (λ u. omega arith) (rw e'.is (omega arith)) in
-        let o = reads d'' (f.Choice ∷ fs) (b ∷ a ∷ rs) (omega arith) (λ u. omega arith) (omega (arith, gap4 (role_at ts j) (fresh_at ts j) w)) in
+        let o = reads d'' (f.Choice ∷ fs) (b ∷ a ∷ rs) (omega arith) (λ u. omega arith) (omega (arith, gap4 (role_at ts j) (after_line_at ts j) w)) in
         record {
           level = 4;
           at_least = omega arith;
           exact = λ g u. omega arith;
           steps = leads_on p.steps
-              (go fs (a ∷ rs) es (After p.level) m _ r.Question (Enter f.Test Operand) e (shifts (top fs) p.level r.Question (fresh_at ts m) (omega (arith, p.at_least)) (omega arith) p.at_least)
+              (go fs (a ∷ rs) es (After p.level) m _ r.Question (Enter f.Test Operand) e (shifts (top fs) p.level r.Question (after_line_at ts m) (omega (arith, p.at_least)) (omega arith) p.at_least)
               (leads_on q.steps
-              (go (f.Test ∷ fs) (b ∷ a ∷ rs) gs (After q.level) n _ r.Colon (Swap f.Choice Operand) e' (closes (Some f.Test) q.level r.Colon (fresh_at ts n) q.at_least (omega arith))
+              (go (f.Test ∷ fs) (b ∷ a ∷ rs) gs (After q.level) n _ r.Colon (Swap f.Choice Operand) e' (closes (Some f.Test) q.level r.Colon (after_line_at ts n) q.at_least (omega arith))
               (leads_on o.steps
-              (go (f.Choice ∷ fs) (c ∷ b ∷ a ∷ rs) hs (After o.level) j _ (role_at ts j) (Build (plain k.Cond) 3 (After 4) false) (its_role j) (closes (Some f.Choice) o.level (role_at ts j) (fresh_at ts j) o.at_least (gap4 (role_at ts j) (fresh_at ts j) w)) here)))));
+              (go (f.Choice ∷ fs) (c ∷ b ∷ a ∷ rs) hs (After o.level) j _ (role_at ts j) (Build (bare k.Cond) 3 (After 4) false) (its_role j) (closes (Some f.Choice) o.level (role_at ts j) (after_line_at ts j) o.at_least (gap4 (role_at ts j) (after_line_at ts j) w)) here)))));
         }
     reads {j = j} (or {a = a} {b = b} {es = es} {gs = gs} {m = m} d e d') fs rs h x w =
         let p = reads d fs rs (omega arith) (λ q. omega arith) (rw e.is (omega arith)) in
@@ -490,9 +494,9 @@ module _ (ts : List Spanned) where
           at_least = omega arith;
           exact = λ g u. omega arith;
           steps = leads_on p.steps
-              (go fs (a ∷ rs) es (After p.level) m _ r.Or (Enter f.Or Operand) e (shifts (top fs) p.level r.Or (fresh_at ts m) (omega (arith, p.at_least)) (omega arith) p.at_least)
+              (go fs (a ∷ rs) es (After p.level) m _ r.Or (Enter f.Or Operand) e (shifts (top fs) p.level r.Or (after_line_at ts m) (omega (arith, p.at_least)) (omega arith) p.at_least)
               (leads_on q.steps
-              (go (f.Or ∷ fs) (b ∷ a ∷ rs) gs (After q.level) j _ (role_at ts j) (Build (plain k.Or) 2 (After 6) false) (its_role j) (closes (Some f.Or) q.level (role_at ts j) (fresh_at ts j) q.at_least (gap6 (role_at ts j) (fresh_at ts j) w)) here)));
+              (go (f.Or ∷ fs) (b ∷ a ∷ rs) gs (After q.level) j _ (role_at ts j) (Build (bare k.Or) 2 (After 6) false) (its_role j) (closes (Some f.Or) q.level (role_at ts j) (after_line_at ts j) q.at_least (gap6 (role_at ts j) (after_line_at ts j) w)) here)));
         }
     reads {j = j} (and_also {a = a} {b = b} {es = es} {gs = gs} {m = m} d e d') fs rs h x w =
         let p = reads d fs rs (omega arith) (λ q. omega arith) (rw e.is (omega arith)) in
@@ -502,9 +506,9 @@ module _ (ts : List Spanned) where
           at_least = omega arith;
           exact = λ g u. omega arith;
           steps = leads_on p.steps
-              (go fs (a ∷ rs) es (After p.level) m _ r.And (Enter f.And Operand) e (shifts (top fs) p.level r.And (fresh_at ts m) (omega (arith, p.at_least)) (omega arith) p.at_least)
+              (go fs (a ∷ rs) es (After p.level) m _ r.And (Enter f.And Operand) e (shifts (top fs) p.level r.And (after_line_at ts m) (omega (arith, p.at_least)) (omega arith) p.at_least)
               (leads_on q.steps
-              (go (f.And ∷ fs) (b ∷ a ∷ rs) gs (After q.level) j _ (role_at ts j) (Build (plain k.And) 2 (After 8) false) (its_role j) (closes (Some f.And) q.level (role_at ts j) (fresh_at ts j) q.at_least (gap8 (role_at ts j) (fresh_at ts j) w)) here)));
+              (go (f.And ∷ fs) (b ∷ a ∷ rs) gs (After q.level) j _ (role_at ts j) (Build (bare k.And) 2 (After 8) false) (its_role j) (closes (Some f.And) q.level (role_at ts j) (after_line_at ts j) q.at_least (gap8 (role_at ts j) (after_line_at ts j) w)) here)));
         }
     reads {j = j} (binary {sign = sign} {a = a} {b = b} {es = es} {gs = gs} {m = m} d e d') fs rs h x w =
         let g = sign_range sign in
@@ -515,9 +519,9 @@ module _ (ts : List Spanned) where
           at_least = omega arith;
           exact = λ v u. u;
           steps = leads_on p.steps
-              (go fs (a ∷ rs) es (After p.level) m _ (r.Infix sign) (Enter (f.Infix sign) Operand) e (shifts (top fs) p.level (r.Infix sign) (fresh_at ts m) (omega (arith, p.at_least)) h p.at_least)
+              (go fs (a ∷ rs) es (After p.level) m _ (r.Infix sign) (Enter (f.Infix sign) Operand) e (shifts (top fs) p.level (r.Infix sign) (after_line_at ts m) (omega (arith, p.at_least)) h p.at_least)
               (leads_on q.steps
-              (go (f.Infix sign ∷ fs) (b ∷ a ∷ rs) gs (After q.level) j _ (role_at ts j) (Build (plain (k.Binary sign)) 2 (After (level_of sign)) false) (its_role j) (closes (Some (f.Infix sign)) q.level (role_at ts j) (fresh_at ts j) (omega (arith, q.at_least)) (omega arith)) here)));
+              (go (f.Infix sign ∷ fs) (b ∷ a ∷ rs) gs (After q.level) j _ (role_at ts j) (Build (bare (k.Binary sign)) 2 (After (level_of sign)) false) (its_role j) (closes (Some (f.Infix sign)) q.level (role_at ts j) (after_line_at ts j) (omega (arith, q.at_least)) (omega arith)) here)));
         }
     reads {ds = ds} {es = es} {i = i} {j = j} (unary {sign = sign} {a = a} e d) fs rs h x w =
         let q = reads d (f.Unary sign ∷ fs) rs (omega arith) (λ u. omega arith) w in
@@ -527,7 +531,7 @@ module _ (ts : List Spanned) where
           exact = λ g u. omega arith;
           steps = go fs rs ds Operand i _ (r.Prefix sign) (Enter (f.Unary sign) Operand) e refl
               (leads_on q.steps
-              (go (f.Unary sign ∷ fs) (a ∷ rs) es (After q.level) j _ (role_at ts j) (Build (plain (k.Unary sign)) 1 (After 14) false) (its_role j) (closes (Some (f.Unary sign)) q.level (role_at ts j) (fresh_at ts j) q.at_least (gap14 (role_at ts j) (fresh_at ts j) w)) here));
+              (go (f.Unary sign ∷ fs) (a ∷ rs) es (After q.level) j _ (role_at ts j) (Build (bare (k.Unary sign)) 1 (After 14) false) (its_role j) (closes (Some (f.Unary sign)) q.level (role_at ts j) (after_line_at ts j) q.at_least (gap14 (role_at ts j) (after_line_at ts j) w)) here));
         }
     reads {ds = ds} {es = es} {i = i} {j = j} (negative {a = a} e d) fs rs h x w =
         let q = reads d (f.Unary s.Minus ∷ fs) rs (omega arith) (λ u. omega arith) w in
@@ -537,7 +541,7 @@ module _ (ts : List Spanned) where
           exact = λ g u. omega arith;
           steps = go fs rs ds Operand i _ (r.Infix s.Minus) (Enter (f.Unary s.Minus) Operand) e refl
               (leads_on q.steps
-              (go (f.Unary s.Minus ∷ fs) (a ∷ rs) es (After q.level) j _ (role_at ts j) (Build (plain (k.Unary s.Minus)) 1 (After 14) false) (its_role j) (closes (Some (f.Unary s.Minus)) q.level (role_at ts j) (fresh_at ts j) q.at_least (gap14 (role_at ts j) (fresh_at ts j) w)) here));
+              (go (f.Unary s.Minus ∷ fs) (a ∷ rs) es (After q.level) j _ (role_at ts j) (Build (bare (k.Unary s.Minus)) 1 (After 14) false) (its_role j) (closes (Some (f.Unary s.Minus)) q.level (role_at ts j) (after_line_at ts j) q.at_least (gap14 (role_at ts j) (after_line_at ts j) w)) here));
         }
     reads {ds = ds} {es = es} {i = i} {j = j} (before {plus = plus} {a = a} e d) fs rs h x w =
         let q = reads d (f.Before plus ∷ fs) rs (omega arith) (λ u. omega arith) w in
@@ -547,17 +551,17 @@ module _ (ts : List Spanned) where
           exact = λ g u. omega arith;
           steps = go fs rs ds Operand i _ (r.Step plus) (Enter (f.Before plus) Operand) e refl
               (leads_on q.steps
-              (go (f.Before plus ∷ fs) (a ∷ rs) es (After q.level) j _ (role_at ts j) (Build (plain (k.Update plus true)) 1 (After 14) false) (its_role j) (closes (Some (f.Before plus)) q.level (role_at ts j) (fresh_at ts j) q.at_least (gap14 (role_at ts j) (fresh_at ts j) w)) here));
+              (go (f.Before plus ∷ fs) (a ∷ rs) es (After q.level) j _ (role_at ts j) (Build (bare (k.Update plus true)) 1 (After 14) false) (its_role j) (closes (Some (f.Before plus)) q.level (role_at ts j) (after_line_at ts j) q.at_least (gap14 (role_at ts j) (after_line_at ts j) w)) here));
         }
     reads {es = es} (behind {plus = plus} {a = a} {m = m} d e l) fs rs h x w =
-        let p : strength (r.Step plus) (fresh_at ts m) ≡ 15 = ap (λ y. strength (r.Step plus) y) l.is in
+        let p : strength (r.Step plus) (after_line_at ts m) ≡ 15 = ap (λ y. strength (r.Step plus) y) l.is in
         let q = reads d fs rs (omega arith) (λ u. omega arith) (rw e.is (omega arith)) in
         record {
           level = 14;
           at_least = omega arith;
           exact = λ g u. omega arith;
           steps = leads_on q.steps
-              (go fs (a ∷ rs) es (After q.level) m _ (r.Step plus) (Suffix (plain (k.Update plus false)) (After 14)) e (shifts (top fs) q.level (r.Step plus) (fresh_at ts m) (omega (arith, q.at_least)) (omega arith) q.at_least) here);
+              (go fs (a ∷ rs) es (After q.level) m _ (r.Step plus) (Suffix (bare (k.Update plus false)) (After 14)) e (shifts (top fs) q.level (r.Step plus) (after_line_at ts m) (omega (arith, q.at_least)) (omega arith) q.at_least) here);
         }
     reads {ds = ds} {es = es} {i = i} {j = j} (new_new {a = a} e d) fs rs h x w =
         let q = reads d (f.New ∷ fs) rs (omega arith) (λ u. omega arith) w in
@@ -567,7 +571,7 @@ module _ (ts : List Spanned) where
           exact = λ g u. omega arith;
           steps = go fs rs ds Operand i _ r.New (Enter f.New Operand) e refl
               (leads_on q.steps
-              (go (f.New ∷ fs) (a ∷ rs) es (After q.level) j _ (role_at ts j) (Build (plain k.New) 1 (After 16) false) (its_role j) (closes (Some f.New) q.level (role_at ts j) (fresh_at ts j) q.at_least (gap16 (role_at ts j) (fresh_at ts j) w) ∙ ap (λ y. if y then Wrong else Build (plain k.New) 1 (After 16) false) (ne_eqb q.level 17 (λ u. let v : 16 ≡ 17 = q.exact (omega arith) u in omega arith))) here));
+              (go (f.New ∷ fs) (a ∷ rs) es (After q.level) j _ (role_at ts j) (Build (bare k.New) 1 (After 16) false) (its_role j) (closes (Some f.New) q.level (role_at ts j) (after_line_at ts j) q.at_least (gap16 (role_at ts j) (after_line_at ts j) w) ∙ ap (λ y. if y then Wrong else Build (bare k.New) 1 (After 16) false) (ne_eqb q.level 17 (λ u. let v : 16 ≡ 17 = q.exact (omega arith) u in omega arith))) here));
         }
     reads {ds = ds} {i = i} (new_args {a = a} {parts = parts} {es = es} {gs = gs} {m = m} {j = j} e d o p c) fs rs h x w =
         let q = reads d (f.New ∷ fs) rs (omega arith) (λ u. omega arith) (rw o.is (omega arith)) in
@@ -577,9 +581,9 @@ module _ (ts : List Spanned) where
           exact = λ g u. omega arith;
           steps = go fs rs ds Operand i _ r.New (Enter f.New Operand) e refl
               (leads_on q.steps
-              (go (f.New ∷ fs) (a ∷ rs) es (After q.level) m _ r.Open (Swap (f.NewArgs 0) Operand) o (shifts (Some f.New) q.level r.Open (fresh_at ts m) (omega (arith, q.at_least)) (omega arith) (omega (arith, q.at_least)) ∙ ap (λ y. if y then Wrong else Swap (f.NewArgs 0) Operand) (le-ltb q.level 18 q.at_least))
+              (go (f.New ∷ fs) (a ∷ rs) es (After q.level) m _ r.Open (Swap (f.NewArgs 0) Operand) o (shifts (Some f.New) q.level r.Open (after_line_at ts m) (omega (arith, q.at_least)) (omega arith) (omega (arith, q.at_least)) ∙ ap (λ y. if y then Wrong else Swap (f.NewArgs 0) Operand) (le-ltb q.level 18 q.at_least))
               (reads_elements p f.NewArgs r.Close k.New 1 18 new_list c fs (a ∷ rs) _
-              (at_built (plain k.New) (After 18) fs rs gs (j + 1) _ (more a parts) (gathers parts 1 (size parts + 1) (a ∷ rs) refl)))));
+              (at_built (bare k.New) (After 18) fs rs gs (j + 1) _ (more a parts) (gathers parts 1 (size parts + 1) (a ∷ rs) refl)))));
         }
     reads {es = es} (member {n = n} {a = a} {m = m} u d o c) fs rs h x w =
         let q = reads d fs rs h x (rw o.is u) in
@@ -589,8 +593,8 @@ module _ (ts : List Spanned) where
           at_least = q.at_least;
           exact = q.exact;
           steps = leads_on q.steps
-              (go fs (a ∷ rs) es (After q.level) m _ r.Dot (Turn (mo.Word q.level)) o (shifts (top fs) q.level r.Dot (fresh_at ts m) (omega (arith, q.at_least)) (omega (arith, g.1)) (omega (arith, q.at_least)))
-              (step fs (a ∷ rs) es (mo.Word q.level) (m + 1) _ (Suffix (titled k.Member n) (After q.level)) (word_member q.level (token_at ts (m + 1)) n c) here));
+              (go fs (a ∷ rs) es (After q.level) m _ r.Dot (Turn (mo.Word q.level)) o (shifts (top fs) q.level r.Dot (after_line_at ts m) (omega (arith, q.at_least)) (omega (arith, g.1)) (omega (arith, q.at_least)))
+              (step fs (a ∷ rs) es (mo.Word q.level) (m + 1) _ (Suffix (named k.Member n) (After q.level)) (word_member q.level (token_at ts (m + 1)) n c) here));
         }
     reads (index {a = a} {b = b} {es = es} {gs = gs} {m = m} {j = j} u d o d' c) fs rs h x w =
         let p = reads d fs rs h x (rw o.is u) in
@@ -601,9 +605,9 @@ module _ (ts : List Spanned) where
           at_least = p.at_least;
           exact = p.exact;
           steps = leads_on p.steps
-              (go fs (a ∷ rs) es (After p.level) m _ r.OpenSquare (Enter (f.Index p.level) Operand) o (shifts (top fs) p.level r.OpenSquare (fresh_at ts m) (omega (arith, p.at_least)) (omega (arith, g.1)) (omega (arith, p.at_least)))
+              (go fs (a ∷ rs) es (After p.level) m _ r.OpenSquare (Enter (f.Index p.level) Operand) o (shifts (top fs) p.level r.OpenSquare (after_line_at ts m) (omega (arith, p.at_least)) (omega (arith, g.1)) (omega (arith, p.at_least)))
               (leads_on q.steps
-              (go (f.Index p.level ∷ fs) (b ∷ a ∷ rs) gs (After q.level) j _ r.CloseSquare (Build (plain k.Index) 2 (After p.level) true) c (closes (Some (f.Index p.level)) q.level r.CloseSquare (fresh_at ts j) q.at_least (omega arith)) here)));
+              (go (f.Index p.level ∷ fs) (b ∷ a ∷ rs) gs (After q.level) j _ r.CloseSquare (Build (bare k.Index) 2 (After p.level) true) c (closes (Some (f.Index p.level)) q.level r.CloseSquare (after_line_at ts j) q.at_least (omega arith)) here)));
         }
     reads (call {a = a} {parts = parts} {es = es} {gs = gs} {m = m} {j = j} u d o p c) fs rs h x w =
         let g = x refl in
@@ -613,20 +617,20 @@ module _ (ts : List Spanned) where
           at_least = omega arith;
           exact = λ v y. refl;
           steps = leads_on q.steps
-              (go fs (a ∷ rs) es (After q.level) m _ r.Open (Enter (f.Args 0) Operand) o (shifts (top fs) q.level r.Open (fresh_at ts m) (omega (arith, q.at_least)) (omega arith) (omega (arith, q.at_least)) ∙ opens_args (top fs) q.level g)
+              (go fs (a ∷ rs) es (After q.level) m _ r.Open (Enter (f.Args 0) Operand) o (shifts (top fs) q.level r.Open (after_line_at ts m) (omega (arith, q.at_least)) (omega arith) (omega (arith, q.at_least)) ∙ opens_args (top fs) q.level g)
               (reads_elements p f.Args r.Close k.Call 1 17 args c fs (a ∷ rs) _
-              (at_built (plain k.Call) (After 17) fs rs gs (j + 1) _ (more a parts) (gathers parts 1 (size parts + 1) (a ∷ rs) refl))));
+              (at_built (bare k.Call) (After 17) fs rs gs (j + 1) _ (more a parts) (gathers parts 1 (size parts + 1) (a ∷ rs) refl))));
         }
     reads {ds = ds} {i = i} (this e) fs rs h x w =
-        record { level = 18; at_least = omega arith; exact = λ g u. omega arith; steps = go fs rs ds Operand i _ r.This (Leaf (plain k.This) (After 18)) e refl here }
+        record { level = 18; at_least = omega arith; exact = λ g u. omega arith; steps = go fs rs ds Operand i _ r.This (Leaf (bare k.This) (After 18)) e refl here }
     reads {ds = ds} {i = i} (name_of {n = n} e) fs rs h x w =
-        record { level = 18; at_least = omega arith; exact = λ g u. omega arith; steps = go fs rs ds Operand i _ (r.Name n) (Leaf (titled k.Name n) (After 18)) e (ap (λ y. if y then Begin (titled k.Param n) (f.Head 1) mo.Arrow else Leaf (titled k.Name n) (After 18)) (name_alone ts e w)) here }
+        record { level = 18; at_least = omega arith; exact = λ g u. omega arith; steps = go fs rs ds Operand i _ (r.Name n) (Leaf (named k.Name n) (After 18)) e (ap (λ y. if y then Begin (named k.Param n) (f.Head 1) mo.Arrow else Leaf (named k.Name n) (After 18)) (name_alone ts e w)) here }
     reads {ds = ds} {i = i} (number {z = z} e) fs rs h x w =
-        record { level = 18; at_least = omega arith; exact = λ g u. omega arith; steps = go fs rs ds Operand i _ (r.Number z) (Leaf (counted z) (After 18)) e refl here }
+        record { level = 18; at_least = omega arith; exact = λ g u. omega arith; steps = go fs rs ds Operand i _ (r.Number z) (Leaf (numbered k.Number z) (After 18)) e refl here }
     reads {ds = ds} {i = i} (text {n = n} e) fs rs h x w =
-        record { level = 18; at_least = omega arith; exact = λ g u. omega arith; steps = go fs rs ds Operand i _ (r.Text n) (Leaf (titled k.Text n) (After 18)) e refl here }
+        record { level = 18; at_least = omega arith; exact = λ g u. omega arith; steps = go fs rs ds Operand i _ (r.Text n) (Leaf (named k.Text n) (After 18)) e refl here }
     reads {ds = ds} {i = i} (literal {x = y} e) fs rs h x w =
-        record { level = 18; at_least = omega arith; exact = λ g u. omega arith; steps = go fs rs ds Operand i _ (r.Fixed y) (Leaf (plain (k.Literal y)) (After 18)) e refl here }
+        record { level = 18; at_least = omega arith; exact = λ g u. omega arith; steps = go fs rs ds Operand i _ (r.Fixed y) (Leaf (bare (k.Literal y)) (After 18)) e refl here }
     reads {ds = ds} {es = es} {i = i} (array {parts = parts} {j = j} o p c) fs rs h x w =
         record {
           level = 18;
@@ -634,7 +638,7 @@ module _ (ts : List Spanned) where
           exact = λ g u. omega arith;
           steps = go fs rs ds Operand i _ r.OpenSquare (Enter (f.Array 0) Operand) o refl
               (reads_elements p f.Array r.CloseSquare k.ArrayLit 0 18 items c fs rs _
-              (at_built (plain k.ArrayLit) (After 18) fs rs es (j + 1) _ parts (gathers parts 0 (size parts + 0) rs refl)));
+              (at_built (bare k.ArrayLit) (After 18) fs rs es (j + 1) _ parts (gathers parts 0 (size parts + 0) rs refl)));
         }
     reads {ds = ds} {i = i} (object {parts = parts} o p c) fs rs h x w =
         record {
@@ -653,10 +657,10 @@ module _ (ts : List Spanned) where
           exact = λ g u. omega arith;
           steps = go fs rs ds Operand i _ r.Open (Enter f.Group Operand) o (ap (λ y. if y then Enter (f.Params mk.Arrow 0) mo.Param else Enter f.Group Operand) (group_alone ts o d c w))
               (leads_on q.steps
-              (go (f.Group ∷ fs) (a ∷ rs) es (After q.level) j _ r.Close (Build (plain k.Group) 1 (After 18) true) c (closes (Some f.Group) q.level r.Close (fresh_at ts j) q.at_least (omega arith)) here));
+              (go (f.Group ∷ fs) (a ∷ rs) es (After q.level) j _ r.Close (Build (bare k.Group) 1 (After 18) true) c (closes (Some f.Group) q.level r.Close (after_line_at ts j) q.at_least (omega arith)) here));
         }
 
-    reads_listed : {parts : Roses} {ds es : List ℕ} {i j : ℕ} → Listed ts parts ds es i j → (F : ℕ → Frame) → ((n : ℕ) → hole (Some (F n)) ≡ 3) → ((n l : ℕ) → close_move (Some (F n)) l r.Comma ≡ Swap (F (n + 1)) Operand) → (n : ℕ) (fs : List Frame) (rs : List Rose) → strength (role_at ts j) (fresh_at ts j) ≤ 3 → ReadsList ts parts ds es i j F n fs rs
+    reads_listed : {parts : Roses} {ds es : List ℕ} {i j : ℕ} → Listed ts parts ds es i j → (F : ℕ → Frame) → ((n : ℕ) → hole (Some (F n)) ≡ 3) → ((n l : ℕ) → close_move (Some (F n)) l r.Comma ≡ Swap (F (n + 1)) Operand) → (n : ℕ) (fs : List Frame) (rs : List Rose) → strength (role_at ts j) (after_line_at ts j) ≤ 3 → ReadsList ts parts ds es i j F n fs rs
     reads_listed (last_of d) F hs cs n fs rs w =
         let hn = hs n in
         let q = reads d (F n ∷ fs) rs (omega arith) (λ u. omega arith) w in
@@ -671,28 +675,28 @@ module _ (ts : List Spanned) where
           at_least = q.at_least;
           counted = omega (arith, q.counted);
           steps = leads_on p.steps
-              (go (F n ∷ fs) (a ∷ rs) es (After p.level) m _ r.Comma (Swap (F (n + 1)) Operand) e (closes (Some (F n)) p.level r.Comma (fresh_at ts m) (omega (arith, p.at_least)) (omega arith) ∙ cs n p.level) q.steps);
+              (go (F n ∷ fs) (a ∷ rs) es (After p.level) m _ r.Comma (Swap (F (n + 1)) Operand) e (closes (Some (F n)) p.level r.Comma (after_line_at ts m) (omega (arith, p.at_least)) (omega arith) ∙ cs n p.level) q.steps);
         }
 
-    reads_elements : {parts : Roses} {ds es : List ℕ} {i j : ℕ} → Elements ts parts ds es i j → (F : ℕ → Frame) (C : Role) (kind : Kind) (extra level : ℕ) → Bracket F C kind extra level → RoleAt ts j C → (fs : List Frame) (rs : List Rose) (c : State) → Leads ts (built (plain kind) (After level) fs es (j + 1) (gather (size parts + extra) (pushed parts rs) none)) c → Leads ts (Going (F 0 ∷ fs) rs ds Operand i) c
+    reads_elements : {parts : Roses} {ds es : List ℕ} {i j : ℕ} → Elements ts parts ds es i j → (F : ℕ → Frame) (C : Role) (kind : Kind) (extra level : ℕ) → Bracket F C kind extra level → RoleAt ts j C → (fs : List Frame) (rs : List Rose) (c : State) → Leads ts (built (bare kind) (After level) fs es (j + 1) (gather (size parts + extra) (pushed parts rs) none)) c → Leads ts (Going (F 0 ∷ fs) rs ds Operand i) c
     reads_elements {ds = ds} {i = i} nothing F C kind extra level br e fs rs c next =
-        go (F 0 ∷ fs) rs ds Operand i c C (Build (plain kind) (0 + extra) (After level) true) e (br.empty 0 (ahead_at ts i)) next
+        go (F 0 ∷ fs) rs ds Operand i c C (Build (bare kind) (0 + extra) (After level) true) e (br.empty 0 (ahead_at ts i)) next
     reads_elements {parts = parts} {es = es} {j = j} (elements d) F C kind extra level br e fs rs c next =
-        let wk = br.weak (fresh_at ts j) in
+        let wk = br.weak (after_line_at ts j) in
         let q = reads_listed d F br.hole_is br.comma 0 fs rs (rw (e.is, wk) (omega arith)) in
         let hn = br.hole_is q.count in
         let same : size parts + extra ≡ q.count + suc extra = omega (arith, q.counted) in
         leads_on q.steps
-        (go (F q.count ∷ fs) (pushed parts rs) es (After q.level) j c C (Build (plain kind) (q.count + suc extra) (After level) true) e (closes (Some (F q.count)) q.level C (fresh_at ts j) (omega (arith, q.at_least)) (omega arith) ∙ br.full q.count q.level)
-        (subst (λ n. Leads ts (built (plain kind) (After level) fs es (j + 1) (gather n (pushed parts rs) none)) c) same next))
+        (go (F q.count ∷ fs) (pushed parts rs) es (After q.level) j c C (Build (bare kind) (q.count + suc extra) (After level) true) e (closes (Some (F q.count)) q.level C (after_line_at ts j) (omega (arith, q.at_least)) (omega arith) ∙ br.full q.count q.level)
+        (subst (λ n. Leads ts (built (bare kind) (After level) fs es (j + 1) (gather n (pushed parts rs) none)) c) same next))
     reads_elements {parts = parts} {es = es} (elements_comma {j = j} d e') F C kind extra level br e fs rs c next =
         let q = reads_listed d F br.hole_is br.comma 0 fs rs (rw e'.is (omega arith)) in
         let hn = br.hole_is q.count in
         let same : size parts + extra ≡ q.count + 1 + extra = omega (arith, q.counted) in
         leads_on q.steps
-        (go (F q.count ∷ fs) (pushed parts rs) es (After q.level) j c r.Comma (Swap (F (q.count + 1)) Operand) e' (closes (Some (F q.count)) q.level r.Comma (fresh_at ts j) (omega (arith, q.at_least)) (omega arith) ∙ br.comma q.count q.level)
-        (go (F (q.count + 1) ∷ fs) (pushed parts rs) es Operand (j + 1) c C (Build (plain kind) (q.count + 1 + extra) (After level) true) e (br.empty (q.count + 1) (ahead_at ts (j + 1)))
-        (subst (λ n. Leads ts (built (plain kind) (After level) fs es (j + 1 + 1) (gather n (pushed parts rs) none)) c) same next)))
+        (go (F q.count ∷ fs) (pushed parts rs) es (After q.level) j c r.Comma (Swap (F (q.count + 1)) Operand) e' (closes (Some (F q.count)) q.level r.Comma (after_line_at ts j) (omega (arith, q.at_least)) (omega arith) ∙ br.comma q.count q.level)
+        (go (F (q.count + 1) ∷ fs) (pushed parts rs) es Operand (j + 1) c C (Build (bare kind) (q.count + 1 + extra) (After level) true) e (br.empty (q.count + 1) (ahead_at ts (j + 1)))
+        (subst (λ n. Leads ts (built (bare kind) (After level) fs es (j + 1 + 1) (gather n (pushed parts rs) none)) c) same next)))
 
     reads_function : {maker : Maker} {a : Rose} {ds es : List ℕ} {i j : ℕ} → Made ts maker a ds es i j → IsFunction maker → (fs : List Frame) (rs : List Rose) → Leads ts (Going fs rs ds Operand i) (Going fs (a ∷ rs) es (After 18) j)
     reads_function {ds = ds} {i = i} (made (unnamed e) o p c b s q) y fs rs =
@@ -719,7 +723,7 @@ module _ (ts : List Spanned) where
         let q = reads d (f.Computed None ∷ fs) rs (omega arith) (λ u. omega arith) (rw c.is (omega arith)) in
         step fs rs ds mo.Property i _ (Enter (f.Computed None) Operand) (ap (λ y. property_move (top fs) y (follow_at ts i)) (square_token (token_at ts i) o.is))
         (leads_on q.steps
-        (go (f.Computed None ∷ fs) (a ∷ rs) es (After q.level) j _ r.CloseSquare (Swap (f.Key computed_property) mo.Keyed) c (closes (Some (f.Computed None)) q.level r.CloseSquare (fresh_at ts j) q.at_least (omega arith)) here))
+        (go (f.Computed None ∷ fs) (a ∷ rs) es (After q.level) j _ r.CloseSquare (Swap (f.Key computed_property) mo.Keyed) c (closes (Some (f.Computed None)) q.level r.CloseSquare (after_line_at ts j) q.at_least (omega arith)) here))
 
     reads_accessor : {p : Property} {keys : Roses} {ds es : List ℕ} {i j : ℕ} → KeyOf ts p keys ds es i j → (u : Soft) (G : Property → Maker) → ((y : Property) → accessor_move u y ≡ Swap (f.Header (G y)) mo.Open) → (fs : List Frame) (rs : List Rose) → Leads ts (Going (f.Accessor u ∷ fs) rs ds mo.Key i) (Going (f.Header (G p) ∷ fs) (pushed keys rs) es mo.Open j)
     reads_accessor {ds = ds} {i = i} (key_word {n = n} w) u G y fs rs =
@@ -732,7 +736,7 @@ module _ (ts : List Spanned) where
         let q = reads d (f.Computed (Some u) ∷ fs) rs (omega arith) (λ v. omega arith) (rw c.is (omega arith)) in
         step (f.Accessor u ∷ fs) rs ds mo.Key i _ (Swap (f.Computed (Some u)) Operand) (ap (key_move (Some (f.Accessor u))) (square_token (token_at ts i) o.is))
         (leads_on q.steps
-        (go (f.Computed (Some u) ∷ fs) (a ∷ rs) es (After q.level) j _ r.CloseSquare (Swap (f.Header (G computed_property)) mo.Open) c (closes (Some (f.Computed (Some u))) q.level r.CloseSquare (fresh_at ts j) q.at_least (omega arith) ∙ y computed_property) here))
+        (go (f.Computed (Some u) ∷ fs) (a ∷ rs) es (After q.level) j _ r.CloseSquare (Swap (f.Header (G computed_property)) mo.Open) c (closes (Some (f.Computed (Some u))) q.level r.CloseSquare (after_line_at ts j) q.at_least (omega arith) ∙ y computed_property) here))
 
     reads_maker : {maker : Maker} {a : Rose} {ds es : List ℕ} {i j : ℕ} → Made ts maker a ds es i j → IsProperty maker → (fs : List Frame) (rs : List Rose) → Leads ts (Going fs rs ds mo.Property i) (Going fs (a ∷ rs) es mo.Item j)
     reads_maker (made {keys = keys} {es = es} {m = m} (method {p = y} d) o p c b s q) z fs rs =
@@ -754,17 +758,17 @@ module _ (ts : List Spanned) where
 
     reads_property : {a : Rose} {ds es : List ℕ} {i j : ℕ} → PropertyOf ts a ds es i j → follow_of (role_at ts j) ≡ fo.Ends → (fs : List Frame) (rs : List Rose) → Leads ts (Going fs rs ds mo.Property i) (Going fs (a ∷ rs) es mo.Item j)
     reads_property {j = j} (valued {p = p} {keys = keys} {a = a} {es = es} {gs = gs} {m = m} d e d') g fs rs =
-        let w = ends_weak (role_at ts j) (fresh_at ts j) g in
+        let w = ends_weak (role_at ts j) (after_line_at ts j) g in
         let q = reads d' (f.Value p ∷ fs) (pushed keys rs) (omega arith) (λ u. omega arith) (omega arith) in
         leads_on (reads_key d (ap follow_of e.is) fs rs)
         (go (f.Key p ∷ fs) (pushed keys rs) es mo.Keyed m _ r.Colon (Swap (f.Value p) Operand) e refl
         (leads_on q.steps
-        (go (f.Value p ∷ fs) (a ∷ pushed keys rs) gs (After q.level) j _ (role_at ts j) (Build (value_label p) (1 + extra_of p) mo.Item false) (its_role j) (closes (Some (f.Value p)) q.level (role_at ts j) (fresh_at ts j) q.at_least w)
+        (go (f.Value p ∷ fs) (a ∷ pushed keys rs) gs (After q.level) j _ (role_at ts j) (Build (value_label p) (1 + extra_of p) mo.Item false) (its_role j) (closes (Some (f.Value p)) q.level (role_at ts j) (after_line_at ts j) q.at_least w)
         (at_built (value_label p) mo.Item fs rs gs j _ (join keys (more a none)) (valued_gathers keys a (extra_of p) rs (key_size d))))))
     reads_property {ds = ds} {i = i} (shorthand {n = n} e) g fs rs =
-        let w = ends_weak (role_at ts (i + 1)) (fresh_at ts (i + 1)) g in
-        step fs rs ds mo.Property i _ (Begin (titled k.Name n) (f.Value (named_property n)) (After 18)) (ap (property_move (top fs) (token_at ts i)) g ∙ shorthand_move (top fs) (token_at ts i) n e.is)
-        (go (f.Value (named_property n) ∷ fs) (node (named k.Name n) none ∷ rs) ds (After 18) (i + 1) _ (role_at ts (i + 1)) (Build (value_label (named_property n)) 1 mo.Item false) (its_role (i + 1)) (closes (Some (f.Value (named_property n))) 18 (role_at ts (i + 1)) (fresh_at ts (i + 1)) (omega arith) w) here)
+        let w = ends_weak (role_at ts (i + 1)) (after_line_at ts (i + 1)) g in
+        step fs rs ds mo.Property i _ (Begin (named k.Name n) (f.Value (named_property n)) (After 18)) (ap (property_move (top fs) (token_at ts i)) g ∙ shorthand_move (top fs) (token_at ts i) n e.is)
+        (go (f.Value (named_property n) ∷ fs) (node (named k.Name n) none ∷ rs) ds (After 18) (i + 1) _ (role_at ts (i + 1)) (Build (value_label (named_property n)) 1 mo.Item false) (its_role (i + 1)) (closes (Some (f.Value (named_property n))) 18 (role_at ts (i + 1)) (after_line_at ts (i + 1)) (omega arith) w) here)
     reads_property (maker_of z d) g fs rs = reads_maker d z fs rs
 
     reads_property_list : {parts : Roses} {ds es : List ℕ} {i j : ℕ} → PropertyList ts parts ds es i j → follow_of (role_at ts j) ≡ fo.Ends → (n : ℕ) (fs : List Frame) (rs : List Rose) → ReadsProperties parts ds es i j n fs rs
@@ -781,27 +785,27 @@ module _ (ts : List Spanned) where
 
     reads_properties : {parts : Roses} {ds es : List ℕ} {i j : ℕ} → Properties ts parts ds es i j → RoleAt ts j r.CloseBrace → (fs : List Frame) (rs : List Rose) → Leads ts (Going (f.Object 0 ∷ fs) rs ds mo.Property i) (Going fs (node (bare k.ObjectLit) parts ∷ rs) es (After 18) (j + 1))
     reads_properties {ds = ds} {i = i} no_property c fs rs =
-        step (f.Object 0 ∷ fs) rs ds mo.Property i _ (Build (plain k.ObjectLit) 0 (After 18) true) (ap (λ y. property_move (Some (f.Object 0)) y (follow_at ts i)) (brace_token (token_at ts i) c.is)) here
+        step (f.Object 0 ∷ fs) rs ds mo.Property i _ (Build (bare k.ObjectLit) 0 (After 18) true) (ap (λ y. property_move (Some (f.Object 0)) y (follow_at ts i)) (brace_token (token_at ts i) c.is)) here
     reads_properties {parts = parts} {es = es} {j = j} (properties d) c fs rs =
         let q = reads_property_list d (ap follow_of c.is) 0 fs rs in
         leads_on q.steps
-        (go (f.Object q.count ∷ fs) (pushed parts rs) es mo.Item j _ r.CloseBrace (Build (plain k.ObjectLit) (q.count + 1) (After 18) true) c refl
-        (at_built (plain k.ObjectLit) (After 18) fs rs es (j + 1) _ parts (gathers parts 0 (q.count + 1) rs (omega (arith, q.counted)))))
+        (go (f.Object q.count ∷ fs) (pushed parts rs) es mo.Item j _ r.CloseBrace (Build (bare k.ObjectLit) (q.count + 1) (After 18) true) c refl
+        (at_built (bare k.ObjectLit) (After 18) fs rs es (j + 1) _ parts (gathers parts 0 (q.count + 1) rs (omega (arith, q.counted)))))
     reads_properties {parts = parts} {es = es} (properties_comma {j = j} d e) c fs rs =
         let q = reads_property_list d (ap follow_of e.is) 0 fs rs in
         leads_on q.steps
         (go (f.Object q.count ∷ fs) (pushed parts rs) es mo.Item j _ r.Comma (Swap (f.Object (q.count + 1)) mo.Property) e refl
-        (step (f.Object (q.count + 1) ∷ fs) (pushed parts rs) es mo.Property (j + 1) _ (Build (plain k.ObjectLit) (q.count + 1) (After 18) true) (ap (λ y. property_move (Some (f.Object (q.count + 1))) y (follow_at ts (j + 1))) (brace_token (token_at ts (j + 1)) c.is))
-        (at_built (plain k.ObjectLit) (After 18) fs rs es (j + 1 + 1) _ parts (gathers parts 0 (q.count + 1) rs (omega (arith, q.counted))))))
+        (step (f.Object (q.count + 1) ∷ fs) (pushed parts rs) es mo.Property (j + 1) _ (Build (bare k.ObjectLit) (q.count + 1) (After 18) true) (ap (λ y. property_move (Some (f.Object (q.count + 1))) y (follow_at ts (j + 1))) (brace_token (token_at ts (j + 1)) c.is))
+        (at_built (bare k.ObjectLit) (After 18) fs rs es (j + 1 + 1) _ parts (gathers parts 0 (q.count + 1) rs (omega (arith, q.counted))))))
 
   -- a whole one
-  end_low : (level : Level) (role : Role) (fresh : Bool) → IsEnd level role → strength role fresh < hole (Some (f.Start level))
-  end_low lv.Expr r.Semicolon fresh h = omega arith
-  end_low lv.Expr r.Close fresh h = omega arith
-  end_low lv.Expr _ fresh h = absurd h
-  end_low lv.Assign r.Semicolon fresh h = omega arith
-  end_low lv.Assign r.Comma fresh h = omega arith
-  end_low lv.Assign _ fresh h = absurd h
+  end_low : (level : Level) (role : Role) (after_line : Bool) → IsEnd level role → strength role after_line < hole (Some (f.Start level))
+  end_low lv.Expr r.Semicolon after_line h = omega arith
+  end_low lv.Expr r.Close after_line h = omega arith
+  end_low lv.Expr _ after_line h = absurd h
+  end_low lv.Assign r.Semicolon after_line h = omega arith
+  end_low lv.Assign r.Comma after_line h = omega arith
+  end_low lv.Assign _ after_line h = absurd h
 
   end_is : (level : Level) (role : Role) (l : ℕ) → IsEnd level role → close_move (Some (f.Start level)) l role ≡ Ended
   end_is lv.Expr r.Semicolon l h = refl
@@ -817,9 +821,9 @@ module _ (ts : List Spanned) where
 
   pub whole_reads : {level : Level} {a : Rose} {es : List ℕ} {i j : ℕ} → Stands ts (least_of level) a [] es i j → IsEnd level (role_at ts j) → Leads ts (Going (f.Start level ∷ []) [] [] Operand i) (Ends (a ∷ []) es j)
   whole_reads {level = level} {a = a} {es = es} {j = j} d e =
-      let w = end_low level (role_at ts j) (fresh_at ts j) e in
+      let w = end_low level (role_at ts j) (after_line_at ts j) e in
       let u = least_hole level in
       let least = u.0 in
       let small = u.1 in
       let q = reads d (f.Start level ∷ []) [] (omega arith) (λ v. omega arith) (omega arith) in
-      leads_on q.steps (go (f.Start level ∷ []) (a ∷ []) es (After q.level) j _ (role_at ts j) Ended (its_role j) (closes (Some (f.Start level)) q.level (role_at ts j) (fresh_at ts j) (omega (arith, q.at_least)) w ∙ end_is level (role_at ts j) q.level e) here)
+      leads_on q.steps (go (f.Start level ∷ []) (a ∷ []) es (After q.level) j _ (role_at ts j) Ended (its_role j) (closes (Some (f.Start level)) q.level (role_at ts j) (after_line_at ts j) (omega (arith, q.at_least)) w ∙ end_is level (role_at ts j) q.level e) here)

@@ -1,8 +1,2 @@
-pub mod Roles
-pub mod Grammar
-pub mod Machine
-pub mod Covers
-pub mod Reads
-pub mod Answers
-pub mod Renaming
-pub mod Bodies
+pub mod Pauses
+pub mod machine

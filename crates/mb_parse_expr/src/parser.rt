@@ -1,15 +1,18 @@
 // The parser.
 ghost use Rattle.std.specs.Prelude.{◌≡◌, ℕ, ◌+◌, ◌-◌, ◌*◌, ◌≤◌, ◌<◌, ◌^◌, List, [], ◌∷◌, ◌++◌, length, drop, slice_get, vec_len, IfOk, OnOk, Option};
-ghost use Rattle.mb_tree.specs.Roses.{Roses, Shape, shapes, shape, id_of, write_all, roots};
-ghost use Rattle.mb_parse_expr.specs.Roles as roles;
-ghost use Rattle.mb_parse_expr.specs.Grammar as grammar;
-ghost use Rattle.mb_parse_expr.specs.Machine as spec;
-ghost use Rattle.mb_parse_expr.specs.Answers.{place_of, IsReading, IsWaiting, Answers, NeedsItsBody, Moves};
-ghost use Rattle.mb_parse_expr.specs.Reads.{AreTheStatements};
+ghost use Rattle.mb_tree.specs.Roses.{Roses, Shape, Extends, shapes, shape, id_of, write_all, roots};
+ghost use Rattle.mb_grammar.specs.Tokens as roles;
+ghost use Rattle.mb_grammar.specs.Tokens.{Tokens, Place};
+ghost use Rattle.mb_grammar.specs.Grammar.{Bodies};
+ghost use Rattle.mb_tree.specs.machine.Stack.{top, laid};
+ghost use Rattle.mb_parse_expr.specs.machine.Machine as spec;
+ghost use Rattle.mb_parse_expr.specs.Pauses.{next_place, IsReading, IsWaiting, Tells, NeedsItsBody, Moves};
+ghost use Rattle.mb_grammar.specs.Bodies.{AreTheStatements};
 
-use crate::machine::{Frame, Level, Mode, Move, next_move};
-use crate::role::{Follow, Role, classify, followed_by};
+use crate::machine::{Frame, Mode, Move, next_move};
+use crate::role::{Follow, classify, followed_by};
 use mb_base::{NoMemory, NodeId};
+use mb_grammar::{Level, Role};
 use mb_token::{Spanned, Token};
 use mb_tree::{MOST_NODES, Tree};
 use std::alloc::Global;
@@ -36,7 +39,7 @@ pub struct ExprParser {
 }
 
 fn top_of(frames: &[Frame]) -> Option<Frame>
-    ensures { (fs : List Frame) → frames.now ≡ spec.laid fs → result ≡ spec.top fs }
+    ensures { (fs : List Frame) → frames.now ≡ laid fs → result ≡ top fs }
 {
     frames.last().copied()
 }
@@ -50,8 +53,8 @@ fn token_at(tokens: &[Spanned], at: usize) -> Option<Token>
     }
 }
 
-fn is_fresh(tokens: &[Spanned], at: usize) -> bool
-    ensures { result ≡ roles.fresh_at tokens.now at }
+fn is_after_line(tokens: &[Spanned], at: usize) -> bool
+    ensures { result ≡ roles.after_line_at tokens.now at }
 {
     match tokens.get(at) {
         Some(spanned) => spanned.after_line,
@@ -63,7 +66,7 @@ fn is_arrow(tokens: &[Spanned], at: usize) -> bool
     ensures { result ≡ spec.arrow_at tokens.now at }
 {
     match classify(token_at(tokens, at)) {
-        Role::Arrow => !is_fresh(tokens, at),
+        Role::Arrow => !is_after_line(tokens, at),
         _ => false,
     }
 }
@@ -104,10 +107,11 @@ fn follow_at(tokens: &[Spanned], at: usize) -> Follow
 }
 
 impl ExprParser {
-    /// A parser of the expression that stands at `at`, as much of the grammar as `level` says.
+    /// A parser of the expression that stands at `at`: of an Expr, or of an Assign, as `level` says.
     pub fn begin(alloc: Global, at: u32, level: Level) -> Result<ExprParser, NoMemory>
-        ensures place { IfOk result (λ parser. place_of parser ≡ at) }
-        ensures reading { (ts : List Spanned) (base : List Shape) → IfOk result (λ parser. IsReading ts level at base [] parser base) }
+        ensures place { IfOk result (λ parser. next_place parser ≡ at) }
+        ensures reading { (ts : Tokens) (base : List Shape) → IfOk result (λ parser.
+            IsReading ts level at base [] parser base) }
     {
         let mut frames = Vec::new(alloc);
         frames.push(Frame::Start(level))?;
@@ -120,25 +124,34 @@ impl ExprParser {
         })
     }
 
-    /// Reads on, up to the statements of a function's body in braces, or to the end. Each run of one parser gets the same
-    /// tokens, and the tree as the last run left it with what was added since. After `Wrong` or `NoMemory` the parser
-    /// isn't used again, and the tree may hold more nodes. A tree of 2^31 nodes takes no more: `NoMemory`.
+    /// Reads on, up to the statements of a function's body in braces, or to the end. A parser is always given the same
+    /// tokens, and the tree in which it has built, where others may have built behind. It is of no more use once it has
+    /// answered `Wrong` or `NoMemory`; what it built until then stays in the tree. `NoMemory` comes too where a tree
+    /// would have more than 2^31 nodes.
     pub fn run(
         &mut self,
         alloc: Global,
         tokens: &[Spanned],
         tree: &mut Tree,
     ) -> Result<Paused, NoMemory>
-        requires within { place_of self.old ≤ length tokens.now }
-        requires few { length tokens.now ≤ 1048576 }
-        requires reading { (level : Level) × (start : ℕ) × (base : List Shape) × (ds : List ℕ) × IsReading tokens.now level start base ds self.old (shapes tree.old) }
+        requires within { next_place self.old ≤ length tokens.now }
+        requires few { length tokens.now ≤ 1_048_576 }
+        requires reading { (level : Level) × (start : Place) × (base : List Shape) × (ds : Bodies)
+            × IsReading tokens.now level start base ds self.old (shapes tree.old) }
 
         // The one expression that stands where the parser began; none; or a body that is named for the first time.
-        ensures answers { (level : Level) (start : ℕ) (base : List Shape) (ds : List ℕ) → IsReading tokens.now level start base ds self.old (shapes tree.old) → IfOk result (Answers tokens.now level start base ds self.new (shapes tree.new)) }
+        ensures answers { (level : Level) (start : Place) (base : List Shape) (ds : Bodies)
+            → IsReading tokens.now level start base ds self.old (shapes tree.old)
+            → IfOk result (Tells tokens.now level start base ds self.new (shapes tree.new)) }
 
         // Where no statements stand up to a closing brace at a body's place, no expression stands.
-        ensures hopeless { (level : Level) (start : ℕ) (base : List Shape) (ds : List ℕ) → IsReading tokens.now level start base ds self.old (shapes tree.old) → IfOk result (NeedsItsBody tokens.now level start) }
-        ensures forward { IfOk result (Moves (place_of self.old) (place_of self.new)) }
+        ensures hopeless { (level : Level) (start : Place) (base : List Shape) (ds : Bodies)
+            → IsReading tokens.now level start base ds self.old (shapes tree.old)
+            → IfOk result (NeedsItsBody tokens.now level start) }
+        ensures forward { IfOk result (Moves (next_place self.old) (next_place self.new)) }
+
+        // Whatever the answer, also `Wrong` and for want of memory.
+        ensures first { Extends (shapes tree.old) (shapes tree.new) }
     {
         if tree.nodes.len() > MOST_NODES {
             return Err(NoMemory);
@@ -148,7 +161,7 @@ impl ExprParser {
         'steps: loop {
             let token = token_at(tokens, self.at);
             let role = classify(token);
-            let fresh = is_fresh(tokens, self.at);
+            let after_line = is_after_line(tokens, self.at);
             let ahead = is_ahead(tokens, self.at, role);
             let follow = follow_at(tokens, self.at);
             match next_move(
@@ -156,7 +169,7 @@ impl ExprParser {
                 self.mode,
                 token,
                 role,
-                fresh,
+                after_line,
                 ahead,
                 follow,
             ) {
@@ -216,9 +229,12 @@ impl ExprParser {
 
     /// Goes on behind the body's statements, whose closing brace stands at `next`. It is called exactly after `Body`.
     pub fn resume(&mut self, next: u32, statements: Vec<NodeId>)
-        ensures place { place_of self.new ≡ next + 1 }
-        ensures reading { (ts : List Spanned) (level : Level) (start : ℕ) (base out : List Shape) (ds : List ℕ) (body : Roses) →
-            IsWaiting ts level start base ds self.old out → AreTheStatements ts body (place_of self.old) next → statements.items ≡ roots out body
+        ensures place { next_place self.new ≡ next + 1 }
+        ensures reading { (ts : Tokens) (level : Level) (start : Place) (base out : List Shape) (ds : Bodies)
+            (body : Roses)
+            → IsWaiting ts level start base ds self.old out
+            → AreTheStatements ts body (next_place self.old) next
+            → statements.items ≡ roots out body
             → IsReading ts level start base ds self.new (write_all out body) }
     {
         self.mode = Mode::Block(statements.len());

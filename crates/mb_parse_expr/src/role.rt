@@ -1,45 +1,11 @@
 // What tokens are to the grammar of expressions.
 ghost use Rattle.std.specs.Prelude.{◌≡◌};
-ghost use Rattle.mb_parse_expr.specs.Roles.{role_of, word_role, mark_role, follow_of};
+ghost use Rattle.mb_grammar.specs.Tokens.{role_of, word_role, mark_role};
+ghost use Rattle.mb_parse_expr.specs.machine.Machine.{follow_of};
 
-use mb_base::StrId;
+use mb_grammar::Role;
 use mb_token::{Mark, Token, Word};
 use mb_tree::{Fixed, Sign};
-
-/// What a token is to the grammar of expressions. `-` is `Infix(Minus)` wherever it stands.
-#[derive(Clone, Copy)]
-pub enum Role {
-    Name(StrId),
-    Number(i64),
-    Text(StrId),
-    This,
-    Fixed(Fixed),
-    Function,
-    New,
-    /// `!`, `typeof` or `delete`.
-    Prefix(Sign),
-    Infix(Sign),
-    Or,
-    And,
-    /// `++`, and `--` where false.
-    Step(bool),
-    Becomes,
-    Compound(Sign),
-    Question,
-    Colon,
-    Comma,
-    Dot,
-    Arrow,
-    Open,
-    Close,
-    OpenSquare,
-    CloseSquare,
-    OpenBrace,
-    CloseBrace,
-    Semicolon,
-    /// Any other token, and none.
-    Other,
-}
 
 /// What the token behind a property's first word says of that word.
 #[derive(Clone, Copy)]

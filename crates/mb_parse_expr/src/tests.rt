@@ -1,10 +1,11 @@
 // Rows of a parser, by its tokens and its tree.
 ghost use Rattle.std.specs.Prelude.{◌≡◌, ◌≤◌, length, true};
-ghost use Rattle.mb_parse_expr.specs.Roles.{RoleAt};
+ghost use Rattle.mb_grammar.specs.Tokens.{RoleAt};
 
-use crate::role::{Role, classify};
+use crate::role::classify;
 use crate::{ExprParser, Level, Paused};
 use mb_base::{NoMemory, NodeId, StrId};
+use mb_grammar::Role;
 use mb_token::{Mark, Soft, Spanned, Token, Word};
 use mb_tree::{Kind, Node, PropKey, Tree};
 use std::alloc::{AllocError, Global};

@@ -8,9 +8,9 @@ use Rattle.mb_token.specs.declared.mark.Mark.TheVariants as m
 use Rattle.mb_token.specs.declared.word.Word.{Word}
 use Rattle.mb_token.specs.declared.word.Word.TheVariants as w
 use Rattle.mb_tree.specs.Roses.{Rose}
-use Rattle.mb_parse_expr.specs.Roles.{role_of, word_role, mark_role, token_at, WordAt}
-use Rattle.mb_parse_expr.specs.Grammar.{Stands, Lets, lets, BlockOf, block, Sub, sub_block, empty, expression, if_then, if_else, while_do, do_while, for_loop, returns, returns_with, throw, break, continue, try, Statement, sub, let_statement, const, declaration}
-use Rattle.mb_parse_expr.proofs.Begins.{Begins, stands_begins}
+use Rattle.mb_grammar.specs.Tokens.{role_of, word_role, mark_role, token_at, WordAt}
+use Rattle.mb_grammar.specs.Grammar.{Stands, Lets, lets, BlockOf, block, Sub, sub_block, empty, expression, if_then, if_else, while_do, do_while, for_loop, returns, returns_with, throw, break, continue, try, Statement, sub, let_statement, const, declaration}
+use Rattle.mb_grammar.proofs.FirstTokens.{Begins, stands_begins}
 use Rattle.mb_parse_stmt.specs.declared.terminal.Terminal.{Terminal}
 use Rattle.mb_parse_stmt.specs.declared.terminal.Terminal.TheVariants as p
 use Rattle.mb_parse_stmt.specs.declared.machine.Stop.{Stop}
@@ -19,9 +19,9 @@ use Rattle.mb_parse_stmt.specs.declared.machine.Holder.{Holder}
 use Rattle.mb_parse_stmt.specs.declared.machine.Holder.TheVariants as ho
 use Rattle.mb_parse_stmt.specs.declared.machine.Frame.TheVariants as f
 use Rattle.mb_parse_stmt.specs.declared.machine.Move.TheVariants.{Enter, Ask}
-use Rattle.mb_parse_expr.specs.declared.machine.Level.TheVariants as lv
-use Rattle.mb_parse_stmt.specs.Terminals.{word_terminal, mark_terminal, terminal_of, terminal_at}
-use Rattle.mb_parse_stmt.specs.Machine.{value, line_move, return_move, sub_move, begin_move, closes, first_move, test_move, last_move, stops_of}
+use Rattle.mb_grammar.specs.declared.level.Level.TheVariants as lv
+use Rattle.mb_parse_stmt.specs.machine.Terminals.{word_terminal, mark_terminal, terminal_of, terminal_at}
+use Rattle.mb_parse_stmt.specs.machine.Machine.{value, line_move, return_move, sub_move, begin_move, closes, first_move, test_move, last_move, stops_of}
 use Rattle.mb_parse_stmt.proofs.Tokens.{means, word_there, role_there}
 
 -- expressions
@@ -145,23 +145,23 @@ module _ (ts : List Spanned) where
 
 -- moves
 
-pub begins_sub : (x next third : Terminal) (fresh : Bool) → SubOpens x → begin_move x next third fresh ≡ sub_move x next fresh
-begins_sub p.Let next third fresh h = absurd h
-begins_sub p.Const next third fresh h = absurd h
-begins_sub p.Function next third fresh h = absurd h
-begins_sub _ next third fresh h = refl
+pub begins_sub : (x next third : Terminal) (after_line : Bool) → SubOpens x → begin_move x next third after_line ≡ sub_move x next after_line
+begins_sub p.Let next third after_line h = absurd h
+begins_sub p.Const next third after_line h = absurd h
+begins_sub p.Function next third after_line h = absurd h
+begins_sub _ next third after_line h = refl
 
-pub expression_sub : (x next : Terminal) (fresh : Bool) → Starts x → (x ≡ p.OpenBrace → ⊥) → (x ≡ p.Function → ⊥) → sub_move x next fresh ≡ Enter f.Expression value 0
-expression_sub (p.Name n) next fresh h b z = refl
-expression_sub p.Function next fresh h b z = absurd (z refl)
-expression_sub p.Open next fresh h b z = refl
-expression_sub p.OpenBrace next fresh h b z = absurd (b refl)
-expression_sub p.Other next fresh h b z = refl
-expression_sub _ next fresh h b z = absurd h
+pub expression_sub : (x next : Terminal) (after_line : Bool) → Starts x → (x ≡ p.OpenBrace → ⊥) → (x ≡ p.Function → ⊥) → sub_move x next after_line ≡ Enter f.Expression value 0
+expression_sub (p.Name n) next after_line h b z = refl
+expression_sub p.Function next after_line h b z = absurd (z refl)
+expression_sub p.Open next after_line h b z = refl
+expression_sub p.OpenBrace next after_line h b z = absurd (b refl)
+expression_sub p.Other next after_line h b z = refl
+expression_sub _ next after_line h b z = absurd h
 
-pub starts_return : (x : Terminal) (fresh : Bool) → Starts x → return_move x fresh ≡ line_move fresh f.Return
-starts_return p.Semicolon fresh h = absurd h
-starts_return _ fresh h = refl
+pub starts_return : (x : Terminal) (after_line : Bool) → Starts x → return_move x after_line ≡ line_move after_line f.Return
+starts_return p.Semicolon after_line h = absurd h
+starts_return _ after_line h = refl
 
 pub starts_first : (x : Terminal) → Starts x → first_move x ≡ Ask lv.Expr
 starts_first p.Let h = absurd h

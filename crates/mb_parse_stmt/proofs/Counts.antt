@@ -4,11 +4,11 @@ use Rattle.std.specs.Prelude.{if◌then◌else◌}
 use Rattle.mb_base.specs.declared.value.StrId.{StrId}
 use Rattle.mb_base.specs.declared.value.NodeId.{NodeId}
 use Rattle.mb_token.specs.declared.token.Spanned.{Spanned}
-use Rattle.mb_tree.specs.Roses.{Rose, Roses, none, more, Shape}
-use Rattle.mb_tree.specs.Operands.{size, pushed}
+use Rattle.mb_tree.specs.Roses.{Rose, Roses, none, more, Shape, size}
+use Rattle.mb_tree.specs.machine.Operands.{pushed}
 use Rattle.mb_tree.proofs.Written.{places_length}
-use Rattle.mb_parse_expr.specs.declared.role.Role.TheVariants as r
-use Rattle.mb_parse_expr.specs.declared.machine.Level.{Level}
+use Rattle.mb_grammar.specs.declared.role.Role.TheVariants as r
+use Rattle.mb_grammar.specs.declared.level.Level.{Level}
 use Rattle.mb_parse_stmt.specs.declared.terminal.Terminal.{Terminal}
 use Rattle.mb_parse_stmt.specs.declared.terminal.Terminal.TheVariants as p
 use Rattle.mb_parse_stmt.specs.declared.machine.Stop.{Stop}
@@ -23,11 +23,12 @@ use Rattle.mb_parse_stmt.specs.declared.machine.Mode.TheVariants as mo
 use Rattle.mb_parse_stmt.specs.declared.machine.Move.{Move}
 use Rattle.mb_parse_stmt.specs.declared.machine.Move.TheVariants.{Leaf, Enter, Swap, Build, Ask, Ended, Wrong}
 use Rattle.mb_parse_stmt.specs.declared.machine.View.{View}
-use Rattle.mb_parse_stmt.specs.Machine.{count_of, open_then, close_then, brace_then, semicolon_then, while_then, line_move, return_move, sub_move, function_move, begin_move, closes, close_list, statement_move, then_move, try_move, catch_move, caught_move, done_move, behind_move, first_move, test_move, last_move, part_move, alone_move, name_move, declaration_move, declared_move, next_declaration, declared_end, param_of, param_move, comma_of, comma_move, catch_name_move, move_of, Going, top, laid}
-use Rattle.mb_parse_stmt.specs.Covers.{Counted, no_statement, one_more, Commas, no_comma, comma_more, NameCommas, no_name, name_more, CatchHead, nameless, head_named, Lists, top_list, block_list, body_list, Subs, sub_list, in_then, in_else, in_while, in_do, in_for, Blocks, block_sub, in_try, in_catch, in_finally, Dones, done_statement, done_sub, done_block, Parts, part_first, part_test, part_last, Declarings, in_let, in_const, in_for_let, Declareds, declared_one, Askings, ask_if, ask_while, ask_do, ask_part, ask_return, ask_throw, ask_expression, ask_value, Behinds, behind_expression, behind_lets, InParams, in_params, InComma, in_comma, CatchNames, catch_name, Good}
-use Rattle.mb_parse_stmt.specs.Answers.{taken}
+use Rattle.mb_parse_stmt.specs.machine.Machine.{count_of, open_then, close_then, brace_then, semicolon_then, while_then, line_move, return_move, sub_move, function_move, begin_move, closes, close_list, statement_move, then_move, try_move, catch_move, caught_move, done_move, behind_move, first_move, test_move, last_move, part_move, alone_move, name_move, declaration_move, declared_move, next_declaration, declared_end, param_of, param_move, comma_of, comma_move, catch_name_move, move_of, Going}
+use Rattle.mb_tree.specs.machine.Stack.{top, laid}
+use Rattle.mb_parse_stmt.specs.machine.Covers.{Counted, no_statement, one_more, Commas, no_comma, comma_more, NameCommas, no_name, name_more, CatchHead, nameless, head_named, Lists, top_list, block_list, body_list, Subs, sub_list, in_then, in_else, in_while, in_do, in_for, Blocks, block_sub, in_try, in_catch, in_finally, Dones, done_statement, done_sub, done_block, Parts, part_first, part_test, part_last, Declarings, in_let, in_const, in_for_let, Declareds, declared_one, Askings, ask_if, ask_while, ask_do, ask_part, ask_return, ask_throw, ask_expression, ask_value, Behinds, behind_expression, behind_lets, InParams, in_params, InComma, in_comma, CatchNames, catch_name, Good}
+use Rattle.mb_parse_stmt.specs.machine.Stops.{taken}
 use Rattle.mb_parse_stmt.proofs.Places.{word_within, role_within, end_within, block_within, sub_within, statement_within}
-use Rattle.mb_parse_stmt.specs.Reads.{Reading, Wanting}
+use Rattle.mb_parse_stmt.specs.machine.Progress.{Reading, Wanting}
 
 -- the place that is read next
 
@@ -261,34 +262,34 @@ Begins mo.Statement = Unit {0}
 Begins mo.Sub = Unit {0}
 Begins _ = ⊥
 
-light_line : (m : Mode) (fresh : Bool) (frame : Frame) → Begins m → Lighter m (line_move fresh frame)
+light_line : (m : Mode) (after_line : Bool) (frame : Frame) → Begins m → Lighter m (line_move after_line frame)
 light_line mo.Statement true frame b = tt
 light_line mo.Statement false frame b = (omega arith, omega arith)
 light_line mo.Sub true frame b = tt
 light_line mo.Sub false frame b = (omega arith, omega arith)
-light_line _ fresh frame b = absurd b
+light_line _ after_line frame b = absurd b
 
-light_return : (m : Mode) (x : Terminal) (fresh : Bool) → Begins m → Lighter m (return_move x fresh)
-light_return mo.Statement p.Semicolon fresh b = (omega arith, omega arith)
-light_return mo.Sub p.Semicolon fresh b = (omega arith, omega arith)
-light_return mo.Statement _ fresh b = light_line mo.Statement fresh f.Return tt
-light_return mo.Sub _ fresh b = light_line mo.Sub fresh f.Return tt
-light_return _ _ fresh b = absurd b
+light_return : (m : Mode) (x : Terminal) (after_line : Bool) → Begins m → Lighter m (return_move x after_line)
+light_return mo.Statement p.Semicolon after_line b = (omega arith, omega arith)
+light_return mo.Sub p.Semicolon after_line b = (omega arith, omega arith)
+light_return mo.Statement _ after_line b = light_line mo.Statement after_line f.Return tt
+light_return mo.Sub _ after_line b = light_line mo.Sub after_line f.Return tt
+light_return _ _ after_line b = absurd b
 
-light_sub_statement : (x next : Terminal) (fresh : Bool) → Lighter mo.Statement (sub_move x next fresh)
-light_sub_statement p.OpenBrace next fresh = (omega arith, omega arith)
-light_sub_statement p.Semicolon next fresh = (omega arith, omega arith)
-light_sub_statement p.If next fresh = light_open mo.Statement next _ (omega arith, omega arith)
-light_sub_statement p.While next fresh = light_open mo.Statement next _ (omega arith, omega arith)
-light_sub_statement p.Do next fresh = (omega arith, omega arith)
-light_sub_statement p.For next fresh = light_open mo.Statement next _ (omega arith, omega arith)
-light_sub_statement p.Return next fresh = light_return mo.Statement next fresh tt
-light_sub_statement p.Throw next fresh = light_line mo.Statement fresh f.Throw tt
-light_sub_statement p.Break next fresh = light_semicolon mo.Statement next _ (omega arith, omega arith)
-light_sub_statement p.Continue next fresh = light_semicolon mo.Statement next _ (omega arith, omega arith)
-light_sub_statement p.Try next fresh = (omega arith, omega arith)
-light_sub_statement p.Function next fresh = tt
-light_sub_statement _ next fresh = (omega arith, omega arith)
+light_sub_statement : (x next : Terminal) (after_line : Bool) → Lighter mo.Statement (sub_move x next after_line)
+light_sub_statement p.OpenBrace next after_line = (omega arith, omega arith)
+light_sub_statement p.Semicolon next after_line = (omega arith, omega arith)
+light_sub_statement p.If next after_line = light_open mo.Statement next _ (omega arith, omega arith)
+light_sub_statement p.While next after_line = light_open mo.Statement next _ (omega arith, omega arith)
+light_sub_statement p.Do next after_line = (omega arith, omega arith)
+light_sub_statement p.For next after_line = light_open mo.Statement next _ (omega arith, omega arith)
+light_sub_statement p.Return next after_line = light_return mo.Statement next after_line tt
+light_sub_statement p.Throw next after_line = light_line mo.Statement after_line f.Throw tt
+light_sub_statement p.Break next after_line = light_semicolon mo.Statement next _ (omega arith, omega arith)
+light_sub_statement p.Continue next after_line = light_semicolon mo.Statement next _ (omega arith, omega arith)
+light_sub_statement p.Try next after_line = (omega arith, omega arith)
+light_sub_statement p.Function next after_line = tt
+light_sub_statement _ next after_line = (omega arith, omega arith)
 
 -- the two modes weigh the same
 light_sub : (move : Move) → Lighter mo.Statement move → Lighter mo.Sub move
@@ -304,24 +305,24 @@ light_function : (x third : Terminal) → Lighter mo.Statement (function_move x 
 light_function (p.Name n) third = light_open mo.Statement third _ (omega arith, omega arith)
 light_function _ third = tt
 
-light_begin : (x next third : Terminal) (fresh : Bool) → Lighter mo.Statement (begin_move x next third fresh)
-light_begin p.Let next third fresh = (omega arith, omega arith)
-light_begin p.Const next third fresh = (omega arith, omega arith)
-light_begin p.Function next third fresh = light_function next third
-light_begin x next third fresh = light_sub_statement x next fresh
+light_begin : (x next third : Terminal) (after_line : Bool) → Lighter mo.Statement (begin_move x next third after_line)
+light_begin p.Let next third after_line = (omega arith, omega arith)
+light_begin p.Const next third after_line = (omega arith, omega arith)
+light_begin p.Function next third after_line = light_function next third
+light_begin x next third after_line = light_sub_statement x next after_line
 
 light_list : (holder : Holder) (n : ℕ) → Lighter mo.Statement (close_list holder n)
 light_list ho.Top n = refl
 light_list ho.Block n = (omega arith, omega arith)
 light_list (ho.Body x params) n = (omega arith, omega arith)
 
-light_statement : (o : Option Frame) (x next third : Terminal) (fresh stops : Bool) → Lighter mo.Statement (statement_move o x next third fresh stops)
-light_statement (Some (f.Statements holder n)) x next third fresh stops = each (closes holder x stops)
+light_statement : (o : Option Frame) (x next third : Terminal) (after_line stops : Bool) → Lighter mo.Statement (statement_move o x next third after_line stops)
+light_statement (Some (f.Statements holder n)) x next third after_line stops = each (closes holder x stops)
   where
-    each : (b : Bool) → Lighter mo.Statement (if b then close_list holder n else begin_move x next third fresh)
+    each : (b : Bool) → Lighter mo.Statement (if b then close_list holder n else begin_move x next third after_line)
     each true = light_list holder n
-    each false = light_begin x next third fresh
-light_statement _ x next third fresh stops = tt
+    each false = light_begin x next third after_line
+light_statement _ x next third after_line stops = tt
 
 light_then : (x : Terminal) → Lighter mo.Done (then_move x)
 light_then p.Else = (omega arith, omega arith)
@@ -436,8 +437,8 @@ light_catch_name (p.Name n) next = light_close mo.CatchName next _ (omega arith,
 light_catch_name _ next = tt
 
 pub lighter : (o : Option Frame) (mode : Mode) (v : View) → Lighter mode (move_of o mode v)
-lighter o mo.Statement v = light_statement o v.here v.next v.third v.fresh v.stops
-lighter o mo.Sub v = light_sub (sub_move v.here v.next v.fresh) (light_sub_statement v.here v.next v.fresh)
+lighter o mo.Statement v = light_statement o v.here v.next v.third v.after_line v.stops
+lighter o mo.Sub v = light_sub (sub_move v.here v.next v.after_line) (light_sub_statement v.here v.next v.after_line)
 lighter o mo.Done v = light_done o v.here v.next
 lighter o (mo.Expression level) v = refl
 lighter o mo.Behind v = light_behind o v.here v.next

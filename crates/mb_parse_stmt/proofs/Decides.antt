@@ -4,12 +4,12 @@ use Rattle.std.specs.Prelude.{nat_lt}
 use Rattle.std.proofs.lemmas.Bool.{ltb-true, ltb-false}
 use Rattle.mb_token.specs.declared.token.Spanned.{Spanned}
 use Rattle.mb_tree.specs.Roses.{Rose, Roses, none}
-use Rattle.mb_tree.specs.Operands.{pushed, Gathered, Short, Got, gather}
-use Rattle.mb_parse_expr.specs.declared.role.Role.TheVariants as r
-use Rattle.mb_parse_expr.specs.declared.machine.Level.{Level}
-use Rattle.mb_parse_expr.specs.Grammar.{Statements, finished, statement}
-use Rattle.mb_parse_expr.specs.Bodies.{BodyAt, ExpressionAt, IsDecided}
-use Rattle.mb_parse_expr.proofs.Forward.{stands_forward, statements_forward}
+use Rattle.mb_tree.specs.machine.Operands.{pushed, Gathered, Short, Got, gather}
+use Rattle.mb_grammar.specs.declared.role.Role.TheVariants as r
+use Rattle.mb_grammar.specs.declared.level.Level.{Level}
+use Rattle.mb_grammar.specs.Grammar.{Statements, finished, statement}
+use Rattle.mb_grammar.specs.Bodies.{BodyAt, ExpressionAt, IsDecided}
+use Rattle.mb_grammar.proofs.Forward.{stands_forward, statements_forward}
 use Rattle.mb_parse_expr.proofs.Decides.{expression_decided}
 use Rattle.mb_parse_stmt.specs.declared.terminal.Terminal.TheVariants as p
 use Rattle.mb_parse_stmt.specs.declared.machine.Holder.TheVariants as ho
@@ -22,10 +22,11 @@ use Rattle.mb_parse_stmt.specs.declared.machine.Mode.{Mode}
 use Rattle.mb_parse_stmt.specs.declared.machine.Mode.TheVariants as mo
 use Rattle.mb_parse_stmt.specs.declared.machine.Move.{Move}
 use Rattle.mb_parse_stmt.specs.declared.machine.Move.TheVariants.{Leaf, Enter, Swap, Build, Ask, Ended, Wrong}
-use Rattle.mb_parse_stmt.specs.Machine.{State, Going, Wants, Ends, Fails, Stuck, built, forward, top, view_at, apply, move_at, Leads}
-use Rattle.mb_parse_stmt.specs.Covers.{no_statement, top_list, behind_expression, IsStop, Good}
-use Rattle.mb_parse_stmt.specs.Reads.{Progress}
-use Rattle.mb_parse_stmt.specs.Script.{IsScript, script_of}
+use Rattle.mb_parse_stmt.specs.machine.Machine.{State, Going, Wants, Ends, Fails, Stuck, built, forward, view_at, apply, move_at, Leads}
+use Rattle.mb_tree.specs.machine.Stack.{top}
+use Rattle.mb_parse_stmt.specs.machine.Covers.{no_statement, top_list, behind_expression, IsStop, Good}
+use Rattle.mb_parse_stmt.specs.machine.Progress.{Progress}
+use Rattle.mb_grammar.specs.Script.{IsScript, script_of}
 use Rattle.mb_parse_stmt.proofs.Tokens.{means}
 use Rattle.mb_parse_stmt.proofs.Places.{role_within, end_within, statement_within}
 use Rattle.mb_parse_stmt.proofs.Counts.{weight, Lighter, lighter, good_within}

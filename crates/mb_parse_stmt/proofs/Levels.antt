@@ -8,22 +8,23 @@ use Rattle.mb_base.specs.declared.value.NodeId.{NodeId}
 use Rattle.mb_token.specs.declared.token.Spanned.{Spanned}
 use Rattle.mb_tree.specs.declared.kind.Kind.TheVariants as k
 use Rattle.mb_tree.specs.Roses.{Rose, Roses, bare, Shape, shape, shapes, write, write_all, roots}
-use Rattle.mb_parse_expr.specs.declared.machine.Level.{Level}
+use Rattle.mb_grammar.specs.declared.level.Level.{Level}
 use Rattle.mb_parse_expr.specs.declared.parser.ExprParser.{ExprParser}
-use Rattle.mb_parse_expr.specs.Roles.{token_of, token_at}
-use Rattle.mb_parse_expr.specs.Grammar.{Statements}
-use Rattle.mb_parse_expr.specs.Covers.{Braced, braced}
-use Rattle.mb_parse_expr.specs.Reads.{Whole, AreTheStatements}
-use Rattle.mb_parse_expr.specs.Answers.{place_of, IsWaiting}
+use Rattle.mb_grammar.specs.Tokens.{token_of, token_at}
+use Rattle.mb_grammar.specs.Grammar.{Statements}
+use Rattle.mb_parse_expr.specs.machine.Covers.{Braced, braced}
+use Rattle.mb_grammar.specs.Script.{Whole, IsScript, script_of}
+use Rattle.mb_grammar.specs.Bodies.{AreTheStatements}
+use Rattle.mb_parse_expr.specs.Pauses.{next_place, IsWaiting}
 use Rattle.mb_parse_stmt.specs.declared.terminal.Terminal.TheVariants as p
 use Rattle.mb_parse_stmt.specs.declared.machine.Stop.{Stop}
 use Rattle.mb_parse_stmt.specs.declared.machine.Stop.TheVariants as st
 use Rattle.mb_parse_stmt.specs.declared.statements.StatementParser.{StatementParser}
 use Rattle.mb_parse_stmt.specs.declared.parser.Outer.{Outer}
-use Rattle.mb_parse_stmt.specs.Terminals.{terminal_of, terminal_at}
-use Rattle.mb_parse_stmt.specs.Answers.{IsReading, IsWanting, AreAll, NoneStand}
-use Rattle.mb_parse_stmt.specs.Script.{IsScript, script_of}
-use Rattle.mb_parse_stmt.specs.Levels.{Needs, Stacked, outermost, inside, laid, AtLevel, InExpression, NoScript}
+use Rattle.mb_parse_stmt.specs.machine.Terminals.{terminal_of, terminal_at}
+use Rattle.mb_parse_stmt.specs.machine.Stops.{IsReading, IsWanting, AreAll, NoneStand}
+use Rattle.mb_parse_stmt.specs.machine.Levels.{Needs, Stacked, outermost, inside, AtLevel, InExpression, NoScript}
+use Rattle.mb_tree.specs.machine.Stack.{laid}
 use Rattle.mb_parse_stmt.proofs.Tokens.{means}
 use Rattle.mb_parse_stmt.proofs.Places.{brace_within}
 use Rattle.mb_parse_stmt.proofs.Place.{none_stand}
@@ -97,7 +98,7 @@ pub record Closing (ts : List Spanned) (outers : List Outer) (outer : Outer) (at
   pub then : List Shape
   pub waiting : IsWaiting ts level outer.statements.at out ds outer.parser then
   pub body : Roses
-  pub statements : AreTheStatements ts body (place_of outer.parser) at
+  pub statements : AreTheStatements ts body (next_place outer.parser) at
   pub ids_are : ids ≡ roots then body
   pub shapes_are : shapes ≡ write_all then body
 
@@ -131,10 +132,10 @@ closing outers' outer z e stacked h = each outers' outer stacked (sym e ∙ z) h
 braced_within : {ts : List Spanned} {level : Level} {start : ℕ} {fs : List _} {rs : List Rose} {ds : List ℕ} {at : ℕ} → Braced ts level start fs rs ds at → at ≤ length ts
 braced_within {ts = ts} (braced {i = i} g o k e) = let w = brace_within ts i o in omega (arith, w, k)
 
-pub waiting_within : {ts : List Spanned} {level : Level} {start : ℕ} {base : List Shape} {ds : List ℕ} (q : ExprParser) {shapes : List Shape} → IsWaiting ts level start base ds q shapes → place_of q ≤ length ts
+pub waiting_within : {ts : List Spanned} {level : Level} {start : ℕ} {base : List Shape} {ds : List ℕ} (q : ExprParser) {shapes : List Shape} → IsWaiting ts level start base ds q shapes → next_place q ≤ length ts
 waiting_within q w = braced_within w.0.progress.sound
 
-pub level_begun : {ts : List Spanned} {outers : List Outer} {q : StatementParser} {x : ExprParser} {before shapes : List Shape} (h : InExpression ts outers q x before) (outer : Outer) (outers' : List Outer) (ds : List ℕ) (at : ℕ) (inner : StatementParser) → outer.statements ≡ q → IsWaiting ts h.level q.at h.out ds outer.parser shapes → Needs ts h.level q.at at → place_of outer.parser ≡ at → outers' ≡ outers ++ outer ∷ [] → inner.stop ≡ st.Brace → IsReading ts at shapes inner shapes → AtLevel ts outers' inner shapes
+pub level_begun : {ts : List Spanned} {outers : List Outer} {q : StatementParser} {x : ExprParser} {before shapes : List Shape} (h : InExpression ts outers q x before) (outer : Outer) (outers' : List Outer) (ds : List ℕ) (at : ℕ) (inner : StatementParser) → outer.statements ≡ q → IsWaiting ts h.level q.at h.out ds outer.parser shapes → Needs ts h.level q.at at → next_place outer.parser ≡ at → outers' ≡ outers ++ outer ∷ [] → inner.stop ≡ st.Brace → IsReading ts at shapes inner shapes → AtLevel ts outers' inner shapes
 level_begun {ts = ts} {q = q} {shapes = shapes} h outer outers' ds at inner qe waiting needs pe oe se reading = record {
   os = outer ∷ h.os;
   outers_are = oe ∙ ap (λ x. x ++ outer ∷ []) h.outers_are;

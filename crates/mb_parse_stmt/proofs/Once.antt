@@ -1,14 +1,14 @@
 -- A parser of statements has one way to go, so that one tree at most stands.
 use Rattle.std.proofs.Common.{◌≡◌, ℕ, zero, suc, ◌+◌, ◌<◌, ◌≤◌, List, [], ◌∷◌, length, refl, sym, ap, subst, ◌∙◌, arith}
 use Rattle.mb_token.specs.declared.token.Spanned.{Spanned}
-use Rattle.mb_tree.specs.Roses.{Rose, Roses, none}
-use Rattle.mb_tree.specs.Operands.{size, pushed, Gathered, Short, Got, gather}
+use Rattle.mb_tree.specs.Roses.{Rose, Roses, none, size}
+use Rattle.mb_tree.specs.machine.Operands.{pushed, Gathered, Short, Got, gather}
 use Rattle.mb_tree.proofs.Written.{gathers}
-use Rattle.mb_parse_expr.specs.declared.role.Role.TheVariants as r
-use Rattle.mb_parse_expr.specs.declared.machine.Level.{Level}
-use Rattle.mb_parse_expr.specs.Grammar.{Statements}
-use Rattle.mb_parse_expr.specs.Bodies.{HasOneBody, HasOneExpression}
-use Rattle.mb_parse_expr.proofs.Forward.{stands_forward, statements_forward}
+use Rattle.mb_grammar.specs.declared.role.Role.TheVariants as r
+use Rattle.mb_grammar.specs.declared.level.Level.{Level}
+use Rattle.mb_grammar.specs.Grammar.{Statements}
+use Rattle.mb_grammar.specs.Bodies.{HasOneBody, HasOneExpression}
+use Rattle.mb_grammar.proofs.Forward.{stands_forward, statements_forward}
 use Rattle.mb_parse_expr.proofs.Once.{one_expression}
 use Rattle.mb_parse_stmt.specs.declared.machine.Stop.{Stop}
 use Rattle.mb_parse_stmt.specs.declared.machine.Stop.TheVariants as st
@@ -18,9 +18,9 @@ use Rattle.mb_parse_stmt.specs.declared.machine.Mode.{Mode}
 use Rattle.mb_parse_stmt.specs.declared.machine.Mode.TheVariants as mo
 use Rattle.mb_parse_stmt.specs.declared.machine.Move.{Move}
 use Rattle.mb_parse_stmt.specs.declared.machine.Move.TheVariants.{Leaf, Enter, Swap, Build, Ask, Ended, Wrong}
-use Rattle.mb_parse_stmt.specs.Machine.{State, Going, Wants, Ends, built, forward, apply, move_at, Leads, here, after, read}
-use Rattle.mb_parse_stmt.specs.Covers.{IsStop}
-use Rattle.mb_parse_stmt.specs.Script.{IsScript, script_of}
+use Rattle.mb_parse_stmt.specs.machine.Machine.{State, Going, Wants, Ends, built, forward, apply, move_at, Leads, here, after, read}
+use Rattle.mb_parse_stmt.specs.machine.Covers.{IsStop}
+use Rattle.mb_grammar.specs.Script.{IsScript, script_of}
 use Rattle.mb_parse_stmt.proofs.Places.{role_within}
 use Rattle.mb_parse_stmt.proofs.Counts.{pushed_length}
 use Rattle.mb_parse_stmt.proofs.Steps.{level_reads}

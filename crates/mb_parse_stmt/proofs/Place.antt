@@ -3,11 +3,13 @@ use Rattle.std.proofs.Common.{◌≡◌, ℕ, zero, suc, ◌+◌, ◌-◌, ◌�
 use Rattle.std.proofs.Math.Seq.{take-append_seam}
 use Rattle.mb_base.specs.declared.value.NodeId.{NodeId}
 use Rattle.mb_token.specs.declared.token.Spanned.{Spanned}
-use Rattle.mb_tree.specs.Roses.{Rose, Roses, node, none, Shape, shape, id_of, root, write, roots}
-use Rattle.mb_tree.specs.Operands.{size, pushed, written, places, Gathered, Short, Got, gather}
-use Rattle.mb_tree.proofs.Written.{root_write, root_least, roots_length, places_length, gather_written, gather_places, gather_size, gathers, pushed_written, pushed_places}
-use Rattle.mb_parse_expr.specs.declared.machine.Level.{Level}
-use Rattle.mb_parse_expr.specs.Reads.{Whole, IsTree}
+use Rattle.mb_tree.specs.Roses.{Rose, Roses, node, none, Shape, shape, id_of, root, write, roots, size}
+use Rattle.mb_tree.specs.machine.Operands.{pushed, written, places, Gathered, Short, Got, gather}
+use Rattle.mb_tree.proofs.Stack.{popped}
+use Rattle.mb_tree.proofs.Written.{operands_fit, root_write, root_least, roots_length, places_length, gather_written, gather_places, gather_size, gathers, pushed_written, pushed_places}
+use Rattle.mb_grammar.specs.declared.level.Level.{Level}
+use Rattle.mb_grammar.specs.Script.{Whole}
+use Rattle.mb_parse_expr.specs.Pauses.{IsTree}
 use Rattle.mb_parse_stmt.specs.declared.machine.Stop.{Stop}
 use Rattle.mb_parse_stmt.specs.declared.machine.Holder.TheVariants as ho
 use Rattle.mb_tree.specs.declared.tree.Label.{Label}
@@ -17,10 +19,11 @@ use Rattle.mb_parse_stmt.specs.declared.machine.Mode.{Mode}
 use Rattle.mb_parse_stmt.specs.declared.machine.Mode.TheVariants as mo
 use Rattle.mb_parse_stmt.specs.declared.machine.Move.{Move}
 use Rattle.mb_parse_stmt.specs.declared.machine.Move.TheVariants.{Leaf, Enter, Swap, Build, Ask, Ended, Wrong}
-use Rattle.mb_parse_stmt.specs.Machine.{view_at, move_of, State, Going, Wants, Ends, Fails, built, forward, top, laid, below, apply, move_at, Leads, here, after, read}
-use Rattle.mb_parse_stmt.specs.Covers.{no_statement, top_list, behind_expression}
-use Rattle.mb_parse_stmt.specs.Reads.{Progress, Reading, Wanting}
-use Rattle.mb_parse_stmt.specs.Answers.{AreAll, NoneStand}
+use Rattle.mb_parse_stmt.specs.machine.Machine.{view_at, move_of, State, Going, Wants, Ends, Fails, built, forward, apply, move_at, Leads, here, after, read}
+use Rattle.mb_tree.specs.machine.Stack.{top, laid, below}
+use Rattle.mb_parse_stmt.specs.machine.Covers.{no_statement, top_list, behind_expression}
+use Rattle.mb_parse_stmt.specs.machine.Progress.{Progress, Reading, Wanting}
+use Rattle.mb_parse_stmt.specs.machine.Stops.{AreAll, NoneStand}
 use Rattle.mb_parse_stmt.proofs.Steps.{level_reads}
 use Rattle.mb_parse_stmt.proofs.Sound.{good_step}
 use Rattle.mb_parse_stmt.proofs.Counts.{Lighter, lighter, good_within, pushed_length}
@@ -51,23 +54,6 @@ chosen_light {stop = stop} {ts = ts} {mode = mode} {at = at} c = subst (Lighter 
 
 chosen_is : {stop : Stop} {ts : List Spanned} {frames : List Frame} {mode : Mode} {at : ℕ} {move : Move} (c : Chosen stop ts frames mode at move) (fs : List Frame) → frames ≡ laid fs → move ≡ move_at stop ts fs mode at
 chosen_is {stop = stop} {ts = ts} {mode = mode} {at = at} c fs e = c.is ∙ ap (λ o. move_of o mode (view_at stop ts at)) (c.tops fs e)
-
-pub shorter : (frames frames' : List Frame) (k : ℕ) → 1 ≤ length frames → k ≡ length frames → frames' ≡ take (k - 1) frames → length frames' + 1 ≡ length frames
-shorter frames frames' k h ke fe = omega (arith, ap length fe, length-take (k - 1) frames)
-
--- the frame on top is taken off
-popped : (fs frames frames' : List Frame) (k : ℕ) → frames ≡ laid fs → k ≡ length frames → frames' ≡ take (k - 1) frames → frames' ≡ laid (below fs)
-popped [] frames frames' k e ke fe =
-    let z : k - 1 ≡ 0 = omega (arith, ap length e) in
-    fe ∙ ap (λ x. take x frames) z
-popped (f' ∷ fs) frames frames' k e ke fe =
-    let len : k - 1 ≡ length (laid fs) = omega (arith, ap length e, length-append (laid fs) (f' ∷ [])) in
-    fe ∙ ap (λ x. take (k - 1) x) e ∙ ap (λ x. take x (laid fs ++ f' ∷ [])) len ∙ take-append_seam (laid fs) (f' ∷ [])
-
--- each operand has a node of its own
-operands_fit : (base : List Shape) (rs : List Rose) → length base + length rs ≤ length (written base rs)
-operands_fit base [] = omega arith
-operands_fit base (q ∷ rs) = omega (arith, operands_fit base rs, root_write (written base rs) q, root_least (written base rs) q)
 
 going_at : {stop : Stop} {ts : List Spanned} {start : ℕ} (fs : List Frame) (rs : List Rose) (mode : Mode) (n at at' : ℕ) → at' ≡ at + n → Progress stop ts start (Going fs rs mode (forward n at)) → Progress stop ts start (Going fs rs mode at')
 going_at {stop = stop} {ts = ts} {start = start} fs rs mode n at at' e p = subst (λ x. Progress stop ts start (Going fs rs mode x)) (forward_plus n at ∙ sym e) p

@@ -6,13 +6,13 @@ use Rattle.mb_token.specs.declared.token.Spanned.{Spanned}
 use Rattle.mb_token.specs.declared.token.Token.{Token}
 use Rattle.mb_token.specs.declared.word.Word.{Word}
 use Rattle.mb_tree.specs.Roses.{Rose}
-use Rattle.mb_parse_expr.specs.declared.role.Role.{Role}
-use Rattle.mb_parse_expr.specs.declared.role.Role.TheVariants as r
-use Rattle.mb_parse_expr.specs.declared.machine.Level.{Level}
-use Rattle.mb_parse_expr.specs.declared.machine.Level.TheVariants as lv
-use Rattle.mb_parse_expr.specs.Roles.{role_of, token_of, token_at, role_at, RoleAt, WordAt}
-use Rattle.mb_parse_expr.specs.Covers.{IsEnd}
-use Rattle.mb_parse_expr.specs.Grammar.{BlockOf, block, no_catch, catch_all, catch_named, no_finally, finally, Sub, sub_block, empty, expression, if_then, if_else, while_do, do_while, for_loop, returns, returns_with, throw, break, continue, try, Statement, sub, let_statement, const, declaration}
+use Rattle.mb_grammar.specs.declared.role.Role.{Role}
+use Rattle.mb_grammar.specs.declared.role.Role.TheVariants as r
+use Rattle.mb_grammar.specs.declared.level.Level.{Level}
+use Rattle.mb_grammar.specs.declared.level.Level.TheVariants as lv
+use Rattle.mb_grammar.specs.Tokens.{role_of, token_of, token_at, role_at, RoleAt, WordAt}
+use Rattle.mb_grammar.specs.Script.{IsEnd}
+use Rattle.mb_grammar.specs.Grammar.{BlockOf, block, no_catch, catch_all, catch_named, no_finally, finally, Sub, sub_block, empty, expression, if_then, if_else, while_do, do_while, for_loop, returns, returns_with, throw, break, continue, try, Statement, sub, let_statement, const, declaration}
 
 pub token_within : (ts : List Spanned) (at : ℕ) (token : Token) → token_at ts at ≡ Some token → at + 1 ≤ length ts
 token_within ts at token e = each (slice_get ts at) refl e

@@ -5,15 +5,17 @@ use Rattle.mb_base.specs.declared.value.StrId.{StrId}
 use Rattle.mb_token.specs.declared.token.Spanned.{Spanned}
 use Rattle.mb_token.specs.declared.word.Word.TheVariants as w
 use Rattle.mb_tree.specs.declared.kind.Kind.TheVariants as k
-use Rattle.mb_tree.specs.Roses.{Rose, Roses, node, none, more, bare, named}
-use Rattle.mb_tree.specs.Operands.{size, join, pushed, Gathered, Got, gather}
+use Rattle.mb_tree.specs.Roses.{Rose, Roses, node, none, more, bare, named, size, join}
+use Rattle.mb_tree.specs.machine.Operands.{pushed, Gathered, Got, gather}
 use Rattle.mb_tree.proofs.Written.{gathers}
-use Rattle.mb_parse_expr.specs.declared.role.Role.TheVariants as r
-use Rattle.mb_parse_expr.specs.declared.machine.Level.{Level}
-use Rattle.mb_parse_expr.specs.declared.machine.Level.TheVariants as lv
-use Rattle.mb_parse_expr.specs.Roles.{fresh_at, RoleAt, SameLine, WordAt}
-use Rattle.mb_parse_expr.specs.Reads.{Whole}
-use Rattle.mb_parse_expr.specs.Grammar.{param, Names, last_name, name_and, Params, no_params, params, params_comma, Stands, Declarations, last_declared, then_declared, Declared, declared, declared_as, lets, BlockOf, block, Perhaps, absent, present, first_lets, first_expression, Caught, no_catch, catch_all, catch_named, no_finally, finally, Sub, sub_block, empty, expression, if_then, if_else, while_do, do_while, for_loop, returns, returns_with, throw, break, continue, try, Statement, sub, let_statement, const, declaration, Statements, finished, statement}
+use Rattle.mb_grammar.specs.declared.role.Role.TheVariants as r
+use Rattle.mb_grammar.specs.declared.level.Level.{Level}
+use Rattle.mb_grammar.specs.declared.level.Level.TheVariants as lv
+use Rattle.mb_grammar.specs.Tokens.{after_line_at, RoleAt, SameLine, WordAt}
+use Rattle.mb_grammar.specs.Script.{Whole}
+use Rattle.mb_grammar.specs.Labels.{param}
+use Rattle.mb_grammar.specs.Parts.{Names, last_name, name_and, Params, no_params, params, params_comma}
+use Rattle.mb_grammar.specs.Grammar.{Stands, Declarations, last_declared, then_declared, Declared, declared, declared_as, lets, BlockOf, block, Perhaps, absent, present, first_lets, first_expression, Caught, no_catch, catch_all, catch_named, no_finally, finally, Sub, sub_block, empty, expression, if_then, if_else, while_do, do_while, for_loop, returns, returns_with, throw, break, continue, try, Statement, sub, let_statement, const, declaration, Statements, finished, statement}
 use Rattle.mb_parse_stmt.specs.declared.terminal.Terminal.{Terminal}
 use Rattle.mb_parse_stmt.specs.declared.terminal.Terminal.TheVariants as p
 use Rattle.mb_parse_stmt.specs.declared.machine.Stop.{Stop}
@@ -27,9 +29,10 @@ use Rattle.mb_parse_stmt.specs.declared.machine.Mode.{Mode}
 use Rattle.mb_parse_stmt.specs.declared.machine.Mode.TheVariants as mo
 use Rattle.mb_parse_stmt.specs.declared.machine.Move.{Move}
 use Rattle.mb_parse_stmt.specs.declared.machine.Move.TheVariants.{Enter, Swap, Build, Leaf}
-use Rattle.mb_parse_stmt.specs.Terminals.{terminal_at}
-use Rattle.mb_parse_stmt.specs.Machine.{plain, titled, one, value, open_then, close_then, brace_then, semicolon_then, while_then, line_move, return_move, sub_move, function_move, begin_move, is_close, close_list, then_move, try_move, catch_move, caught_move, done_move, behind_move, first_move, test_move, last_move, part_move, alone_move, name_move, declaration_move, declared_move, body_move, param_move, comma_move, catch_name_move, stops_of, Going, built, top, apply, move_at}
-use Rattle.mb_parse_stmt.specs.Covers.{Counted, no_statement, one_more, Commas, no_comma, comma_more, NameCommas, no_name, name_more, Titled, ForOpen, ForOne, ForTwo, ForThree, CatchHead, nameless, head_named, Lists, top_list, block_list, body_list, Subs, sub_list, in_then, in_else, in_while, in_do, in_for, Blocks, block_sub, in_try, in_catch, in_finally, Dones, done_statement, done_sub, done_block, Parts, part_first, part_test, part_last, Declarings, in_let, in_const, in_for_let, Declareds, declared_one, Askings, ask_if, ask_while, ask_do, ask_part, ask_return, ask_throw, ask_expression, ask_value, Behinds, behind_expression, behind_lets, InParams, in_params, InComma, in_comma, CatchNames, catch_name, IsStop, Good}
+use Rattle.mb_parse_stmt.specs.machine.Terminals.{terminal_at}
+use Rattle.mb_parse_stmt.specs.machine.Machine.{one, value, open_then, close_then, brace_then, semicolon_then, while_then, line_move, return_move, sub_move, function_move, begin_move, is_close, close_list, then_move, try_move, catch_move, caught_move, done_move, behind_move, first_move, test_move, last_move, part_move, alone_move, name_move, declaration_move, declared_move, body_move, param_move, comma_move, catch_name_move, stops_of, Going, built, apply, move_at}
+use Rattle.mb_tree.specs.machine.Stack.{top}
+use Rattle.mb_parse_stmt.specs.machine.Covers.{Counted, no_statement, one_more, Commas, no_comma, comma_more, NameCommas, no_name, name_more, Titled, ForOpen, ForOne, ForTwo, ForThree, CatchHead, nameless, head_named, Lists, top_list, block_list, body_list, Subs, sub_list, in_then, in_else, in_while, in_do, in_for, Blocks, block_sub, in_try, in_catch, in_finally, Dones, done_statement, done_sub, done_block, Parts, part_first, part_test, part_last, Declarings, in_let, in_const, in_for_let, Declareds, declared_one, Askings, ask_if, ask_while, ask_do, ask_part, ask_return, ask_throw, ask_expression, ask_value, Behinds, behind_expression, behind_lets, InParams, in_params, InComma, in_comma, CatchNames, catch_name, IsStop, Good}
 use Rattle.mb_parse_stmt.proofs.Tokens.{means, word_there, no_role}
 use Rattle.mb_parse_stmt.proofs.Places.{role_within, end_within}
 use Rattle.mb_parse_stmt.proofs.Steps.{perhaps_size, first_size, for_gathers, catch_gathers, finally_gathers, body_gathers}
@@ -142,17 +145,17 @@ module _ (stop : Stop) (ts : List Spanned) (start : ℕ) where
   on_while fs rs at j move p.While e h = h (means ts j p.While e)
   on_while fs rs at j move _ e h = tt
 
-  on_line : (fs : List Frame) (rs : List Rose) (at : ℕ) (frame : Frame) (b : Bool) → fresh_at ts (at + 1) ≡ b → (SameLine ts (at + 1) → Good stop ts start (apply (Enter frame value 1) fs rs at)) → Good stop ts start (apply (line_move b frame) fs rs at)
+  on_line : (fs : List Frame) (rs : List Rose) (at : ℕ) (frame : Frame) (b : Bool) → after_line_at ts (at + 1) ≡ b → (SameLine ts (at + 1) → Good stop ts start (apply (Enter frame value 1) fs rs at)) → Good stop ts start (apply (line_move b frame) fs rs at)
   on_line fs rs at frame true e h = tt
   on_line fs rs at frame false e h = h (record { is = e })
 
   -- a statement begins
 
-  good_return : {fs : List Frame} {rs : List Rose} {at : ℕ} (x : Terminal) → terminal_at ts (at + 1) ≡ x → WordAt ts at w.Return → Subs ts start fs rs at → Good stop ts start (apply (return_move x (fresh_at ts (at + 1))) fs rs at)
+  good_return : {fs : List Frame} {rs : List Rose} {at : ℕ} (x : Terminal) → terminal_at ts (at + 1) ≡ x → WordAt ts at w.Return → Subs ts start fs rs at → Good stop ts start (apply (return_move x (after_line_at ts (at + 1))) fs rs at)
   good_return {at = at} p.Semicolon e g sp = done_sub sp (returns g (means ts (at + 1) p.Semicolon e))
-  good_return {fs = fs} {rs = rs} {at = at} _ e g sp = on_line fs rs at f.Return (fresh_at ts (at + 1)) refl (λ l. ask_return sp g l refl)
+  good_return {fs = fs} {rs = rs} {at = at} _ e g sp = on_line fs rs at f.Return (after_line_at ts (at + 1)) refl (λ l. ask_return sp g l refl)
 
-  good_sub : {fs : List Frame} {rs : List Rose} {at : ℕ} (x : Terminal) → terminal_at ts at ≡ x → Subs ts start fs rs at → Good stop ts start (apply (sub_move x (terminal_at ts (at + 1)) (fresh_at ts (at + 1))) fs rs at)
+  good_sub : {fs : List Frame} {rs : List Rose} {at : ℕ} (x : Terminal) → terminal_at ts at ≡ x → Subs ts start fs rs at → Good stop ts start (apply (sub_move x (terminal_at ts (at + 1)) (after_line_at ts (at + 1))) fs rs at)
   good_sub {at = at} p.OpenBrace e sp = block_list (block_sub sp) (means ts at p.OpenBrace e) no_statement
   good_sub {at = at} p.Semicolon e sp = done_sub sp (empty (means ts at p.Semicolon e))
   good_sub {fs = fs} {rs = rs} {at = at} p.If e sp = on_open fs rs at (at + 1) (Enter f.IfTest value 2) (terminal_at ts (at + 1)) refl (λ o. ask_if sp (means ts at p.If e) o refl)
@@ -160,9 +163,9 @@ module _ (stop : Stop) (ts : List Spanned) (start : ℕ) where
   good_sub {at = at} p.Do e sp = in_do sp (means ts at p.Do e) refl
   good_sub {fs = fs} {rs = rs} {at = at} p.For e sp = on_open fs rs at (at + 1) (Enter f.ForFirst mo.Part 2) (terminal_at ts (at + 1)) refl (λ o. part_first sp (record { word = means ts at p.For e; paren = o }) refl)
   good_sub {at = at} p.Return e sp = good_return (terminal_at ts (at + 1)) refl (means ts at p.Return e) sp
-  good_sub {fs = fs} {rs = rs} {at = at} p.Throw e sp = on_line fs rs at f.Throw (fresh_at ts (at + 1)) refl (λ l. ask_throw sp (means ts at p.Throw e) l refl)
-  good_sub {fs = fs} {rs = rs} {at = at} p.Break e sp = on_semicolon fs rs at (at + 1) (Leaf (plain k.Break) mo.Done 2) (terminal_at ts (at + 1)) refl (λ s. done_sub sp (break (means ts at p.Break e) s))
-  good_sub {fs = fs} {rs = rs} {at = at} p.Continue e sp = on_semicolon fs rs at (at + 1) (Leaf (plain k.Continue) mo.Done 2) (terminal_at ts (at + 1)) refl (λ s. done_sub sp (continue (means ts at p.Continue e) s))
+  good_sub {fs = fs} {rs = rs} {at = at} p.Throw e sp = on_line fs rs at f.Throw (after_line_at ts (at + 1)) refl (λ l. ask_throw sp (means ts at p.Throw e) l refl)
+  good_sub {fs = fs} {rs = rs} {at = at} p.Break e sp = on_semicolon fs rs at (at + 1) (Leaf (bare k.Break) mo.Done 2) (terminal_at ts (at + 1)) refl (λ s. done_sub sp (break (means ts at p.Break e) s))
+  good_sub {fs = fs} {rs = rs} {at = at} p.Continue e sp = on_semicolon fs rs at (at + 1) (Leaf (bare k.Continue) mo.Done 2) (terminal_at ts (at + 1)) refl (λ s. done_sub sp (continue (means ts at p.Continue e) s))
   good_sub {at = at} p.Try e sp = in_try sp (means ts at p.Try e) refl
   good_sub p.Function e sp = tt
   good_sub {at = at} x e sp = ask_expression sp (no_role ts at r.OpenBrace x tt e (λ q. cc)) (no_role ts at r.Function x tt e (λ q. cc))
@@ -171,7 +174,7 @@ module _ (stop : Stop) (ts : List Spanned) (start : ℕ) where
   good_function {fs = fs} {rs = rs} {at = at} (p.Name n) e g sp = on_open fs rs at (at + 1 + 1) (Enter (f.Params n 0) mo.Param 3) (terminal_at ts (at + 1 + 1)) refl (λ o. in_params sp (record { function = g; name = means ts (at + 1) (p.Name n) e; paren = o }) no_name)
   good_function _ e g sp = tt
 
-  good_begin : {fs : List Frame} {rs : List Rose} {at : ℕ} (x : Terminal) → terminal_at ts at ≡ x → Lists ts start fs rs at → Good stop ts start (apply (begin_move x (terminal_at ts (at + 1)) (terminal_at ts (at + 1 + 1)) (fresh_at ts (at + 1))) fs rs at)
+  good_begin : {fs : List Frame} {rs : List Rose} {at : ℕ} (x : Terminal) → terminal_at ts at ≡ x → Lists ts start fs rs at → Good stop ts start (apply (begin_move x (terminal_at ts (at + 1)) (terminal_at ts (at + 1 + 1)) (after_line_at ts (at + 1))) fs rs at)
   good_begin {at = at} p.Let e sp = (false, in_let sp (means ts at p.Let e) no_comma)
   good_begin {at = at} p.Const e sp = (true, in_const sp (means ts at p.Const e) no_comma)
   good_begin {at = at} p.Function e sp = good_function (terminal_at ts (at + 1)) refl (means ts at p.Function e) sp
@@ -186,24 +189,24 @@ module _ (stop : Stop) (ts : List Spanned) (start : ℕ) where
   good_list : {fs : List Frame} {rs : List Rose} {at : ℕ} → Lists ts start fs rs at → Good stop ts start (apply (move_at stop ts fs mo.Statement at) fs rs at)
   good_list {rs = rs} {at = at} (top_list {n = n} h c) = go (stops_of stop (terminal_at ts at)) refl
     where
-      go : (b : Bool) → stops_of stop (terminal_at ts at) ≡ b → Good stop ts start (apply (if b then close_list ho.Top n else begin_move (terminal_at ts at) (terminal_at ts (at + 1)) (terminal_at ts (at + 1 + 1)) (fresh_at ts (at + 1))) (f.Statements ho.Top n ∷ []) rs at)
+      go : (b : Bool) → stops_of stop (terminal_at ts at) ≡ b → Good stop ts start (apply (if b then close_list ho.Top n else begin_move (terminal_at ts at) (terminal_at ts (at + 1)) (terminal_at ts (at + 1 + 1)) (after_line_at ts (at + 1))) (f.Statements ho.Top n ∷ []) rs at)
       go true e =
           let l = close_counted c none at finished in
           (l.parts, l.stack, l.listed, stops_at stop ts at (terminal_at ts at) refl e)
       go false e = good_begin (terminal_at ts at) refl (top_list h c)
   good_list {rs = rs'} {at = at} (block_list {n = n} {fs = fs} {rs = rs} {i = i} bl o c) = go (is_close (terminal_at ts at)) refl
     where
-      go : (b : Bool) → is_close (terminal_at ts at) ≡ b → Good stop ts start (apply (if b then close_list ho.Block n else begin_move (terminal_at ts at) (terminal_at ts (at + 1)) (terminal_at ts (at + 1 + 1)) (fresh_at ts (at + 1))) (f.Statements ho.Block n ∷ fs) rs' at)
+      go : (b : Bool) → is_close (terminal_at ts at) ≡ b → Good stop ts start (apply (if b then close_list ho.Block n else begin_move (terminal_at ts at) (terminal_at ts (at + 1)) (terminal_at ts (at + 1 + 1)) (after_line_at ts (at + 1))) (f.Statements ho.Block n ∷ fs) rs' at)
       go true e =
           let l = close_counted c none at finished in
-          good_built (plain k.Block) mo.Done fs rs (at + 1) (gather n rs' none) l.parts (ap (λ x. gather n x none) l.stack ∙ gathers l.parts 0 n rs (omega (arith, l.count))) (done_block bl (block o l.listed (means ts at p.CloseBrace (is_close_at (terminal_at ts at) e))))
+          good_built (bare k.Block) mo.Done fs rs (at + 1) (gather n rs' none) l.parts (ap (λ x. gather n x none) l.stack ∙ gathers l.parts 0 n rs (omega (arith, l.count))) (done_block bl (block o l.listed (means ts at p.CloseBrace (is_close_at (terminal_at ts at) e))))
       go false e = good_begin (terminal_at ts at) refl (block_list bl o c)
   good_list {rs = rs'} {at = at} (body_list {x = x} {n = n} {count = count} {parts = parts} {fs = fs} {rs = rs} {i = i} {m = m} sp t d u v z c) = go (is_close (terminal_at ts at)) refl
     where
-      go : (b : Bool) → is_close (terminal_at ts at) ≡ b → Good stop ts start (apply (if b then close_list (ho.Body x count) n else begin_move (terminal_at ts at) (terminal_at ts (at + 1)) (terminal_at ts (at + 1 + 1)) (fresh_at ts (at + 1))) (f.Statements (ho.Body x count) n ∷ fs) rs' at)
+      go : (b : Bool) → is_close (terminal_at ts at) ≡ b → Good stop ts start (apply (if b then close_list (ho.Body x count) n else begin_move (terminal_at ts at) (terminal_at ts (at + 1)) (terminal_at ts (at + 1 + 1)) (after_line_at ts (at + 1))) (f.Statements (ho.Body x count) n ∷ fs) rs' at)
       go true e =
           let l = close_counted c none at finished in
-          good_built (titled (k.FunctionDecl count) x) mo.Done fs rs (at + 1) (gather (count + n) rs' none) (join parts l.parts) (ap (λ y. gather (count + n) y none) l.stack ∙ body_gathers parts l.parts (count + n) rs (omega (arith, l.count, z)))
+          good_built (named (k.FunctionDecl count) x) mo.Done fs rs (at + 1) (gather (count + n) rs' none) (join parts l.parts) (ap (λ y. gather (count + n) y none) l.stack ∙ body_gathers parts l.parts (count + n) rs (omega (arith, l.count, z)))
           (done_statement sp (declaration_at x count parts l.parts i m at t d u v z l.listed (means ts at p.CloseBrace (is_close_at (terminal_at ts at) e))))
       go false e = good_begin (terminal_at ts at) refl (body_list sp t d u v z c)
 
@@ -246,7 +249,7 @@ module _ (stop : Stop) (ts : List Spanned) (start : ℕ) where
       on_open (f.DoBody ∷ fs) (b ∷ rs) at (at + 1) (Swap f.DoTest value 2) (terminal_at ts (at + 1)) refl (λ o.
       ask_do sp g (sub_from q d) e o refl))
   good_done_sub {a = d'} {at = at} (in_for {a = a} {b = b} {c = c} {fs = fs} {rs = rs} {rs' = rs'} sp h) d =
-      good_built (plain (k.For a b c)) mo.Done fs rs at (gather (one a + one b + one c + 1) (d' ∷ rs') none) (join h.two.one.x (join h.two.y (join h.z (more d' none))))
+      good_built (bare (k.For a b c)) mo.Done fs rs at (gather (one a + one b + one c + 1) (d' ∷ rs') none) (join h.two.one.x (join h.two.y (join h.z (more d' none))))
       (ap (λ x. gather (one a + one b + one c + 1) (d' ∷ x) none) (for_stack h) ∙ for_gathers h.two.one.x h.two.y h.z d' (one a + one b + one c + 1) rs (for_count h))
       (done_sub sp (for_at h d))
 
@@ -262,7 +265,7 @@ module _ (stop : Stop) (ts : List Spanned) (start : ℕ) where
   good_caught : {has : Bool} {fs : List Frame} {rs rs' : List Rose} {b d : Rose} {i m at : ℕ} (x : Terminal) → terminal_at ts at ≡ x → Subs ts start fs rs i → WordAt ts i w.Try → BlockOf ts b (i + 1) m → CaughtOf ts has b d rs rs' m at → Good stop ts start (apply (caught_move has x) (f.CatchBlock has ∷ fs) (d ∷ rs') at)
   good_caught {at = at} p.Finally e sp g bl c = in_finally sp g bl c.caught (means ts at p.Finally e) c.stack refl
   good_caught {has = has} {fs = fs} {rs = rs} {rs' = rs'} {b = b} {d = d} {at = at} x e sp g bl c =
-      good_built (plain (k.Try true has false)) mo.Done fs rs at (gather (2 + one has) (d ∷ rs') none) (more b (join c.x none))
+      good_built (bare (k.Try true has false)) mo.Done fs rs at (gather (2 + one has) (d ∷ rs') none) (more b (join c.x none))
       (ap (λ y. gather (2 + one has) y none) c.stack ∙ catch_gathers b c.x (2 + one has) rs (omega (arith, c.count)))
       (done_sub sp (try g bl c.caught no_finally (λ u v. cc)))
 
@@ -271,7 +274,7 @@ module _ (stop : Stop) (ts : List Spanned) (start : ℕ) where
   good_done_block {at = at} (in_try sp g q) d = good_try (terminal_at ts at) refl sp g (block_from q d)
   good_done_block {at = at} (in_catch sp g bl h) d = good_caught (terminal_at ts at) refl sp g bl (caught_of h refl d)
   good_done_block {a = d'} {at = at} (in_finally {caught = caught} {named = has} {b = b} {x = x} {fs = fs} {rs = rs} {rs' = rs'} sp g bl c u s q) d =
-      good_built (plain (k.Try caught has true)) mo.Done fs rs at (gather (2 + one caught + one has) (d' ∷ rs') none) (more b (join x (more d' none)))
+      good_built (bare (k.Try caught has true)) mo.Done fs rs at (gather (2 + one caught + one has) (d' ∷ rs') none) (more b (join x (more d' none)))
       (ap (λ y. gather (2 + one caught + one has) (d' ∷ y) none) s ∙ finally_gathers b d' x (2 + one caught + one has) rs (omega (arith, caught_size c)))
       (done_sub sp (try g bl c (finally u (block_from q d)) (λ y z. cc)))
 
@@ -305,16 +308,16 @@ module _ (stop : Stop) (ts : List Spanned) (start : ℕ) where
   good_read {a = a} {at = at} (ask_while {fs = fs} {rs = rs} sp g o q) h =
       on_close (f.WhileTest ∷ fs) (a ∷ rs) at at (Swap f.WhileBody mo.Sub 1) (terminal_at ts at) refl (λ u. in_while sp g o (stands_from q h.stands) u refl)
   good_read {a = a} {at = at} (ask_do {b = b} {fs = fs} {rs = rs} sp g d v o q) h =
-      on_close (f.DoTest ∷ fs) (a ∷ b ∷ rs) at at (semicolon_then (terminal_at ts (at + 1)) (Build (plain k.DoWhile) 2 mo.Done 2)) (terminal_at ts at) refl (λ u.
-      on_semicolon (f.DoTest ∷ fs) (a ∷ b ∷ rs) at (at + 1) (Build (plain k.DoWhile) 2 mo.Done 2) (terminal_at ts (at + 1)) refl (λ s.
+      on_close (f.DoTest ∷ fs) (a ∷ b ∷ rs) at at (semicolon_then (terminal_at ts (at + 1)) (Build (bare k.DoWhile) 2 mo.Done 2)) (terminal_at ts at) refl (λ u.
+      on_semicolon (f.DoTest ∷ fs) (a ∷ b ∷ rs) at (at + 1) (Build (bare k.DoWhile) 2 mo.Done 2) (terminal_at ts (at + 1)) refl (λ s.
       done_sub sp (do_while g d v o (stands_from q h.stands) u s)))
   good_read (ask_part sp) h = good_head sp h.stands
   good_read {a = a} {at = at} (ask_return {fs = fs} {rs = rs} sp g l q) h =
-      on_semicolon (f.Return ∷ fs) (a ∷ rs) at at (Build (plain k.Return) 1 mo.Done 1) (terminal_at ts at) refl (λ s. done_sub sp (returns_with g l (stands_from q h.stands) s))
+      on_semicolon (f.Return ∷ fs) (a ∷ rs) at at (Build (bare k.Return) 1 mo.Done 1) (terminal_at ts at) refl (λ s. done_sub sp (returns_with g l (stands_from q h.stands) s))
   good_read {a = a} {at = at} (ask_throw {fs = fs} {rs = rs} sp g l q) h =
-      on_semicolon (f.Throw ∷ fs) (a ∷ rs) at at (Build (plain k.Throw) 1 mo.Done 1) (terminal_at ts at) refl (λ s. done_sub sp (throw g l (stands_from q h.stands) s))
+      on_semicolon (f.Throw ∷ fs) (a ∷ rs) at at (Build (bare k.Throw) 1 mo.Done 1) (terminal_at ts at) refl (λ s. done_sub sp (throw g l (stands_from q h.stands) s))
   good_read {a = a} {at = at} (ask_expression {fs = fs} {rs = rs} sp n n') h =
-      on_semicolon (f.Expression ∷ fs) (a ∷ rs) at at (Build (plain k.ExprStmt) 1 mo.Done 1) (terminal_at ts at) refl (λ s. done_sub sp (expression n n' h.stands s))
+      on_semicolon (f.Expression ∷ fs) (a ∷ rs) at at (Build (bare k.ExprStmt) 1 mo.Done 1) (terminal_at ts at) refl (λ s. done_sub sp (expression n n' h.stands s))
   good_read {at = at} (ask_value sp n b q) h = declared_one sp (declared_as n b (stands_from q h.stands)) (end_within ts lv.Assign at h.end)
 
   good_behind : {fs : List Frame} {rs : List Rose} {at : ℕ} → Behinds ts start fs rs at → Good stop ts start (apply (behind_move (top fs) (terminal_at ts at) (terminal_at ts (at + 1))) fs rs at)
@@ -369,15 +372,15 @@ module _ (stop : Stop) (ts : List Spanned) (start : ℕ) where
   good_declared {at = at} p.Comma e (in_for_let sp op g c) d = (false, in_for_let sp op g (comma_more c d (means ts at p.Comma e) refl refl))
   good_declared {a = a} {at = at} p.Semicolon e (in_let {n = n} {fs = fs} {rs = rs} {rs' = rs'} sp g c) d =
       let l = close_commas c (more a none) at (last_declared d) in
-      good_built (plain k.Let) mo.Done fs rs (at + 1) (gather (n + 1) (a ∷ rs') none) l.parts (ap (λ x. gather (n + 1) x none) l.stack ∙ gathers l.parts 0 (n + 1) rs (omega (arith, l.count)))
+      good_built (bare k.Let) mo.Done fs rs (at + 1) (gather (n + 1) (a ∷ rs') none) l.parts (ap (λ x. gather (n + 1) x none) l.stack ∙ gathers l.parts 0 (n + 1) rs (omega (arith, l.count)))
       (done_statement sp (let_statement (lets g l.listed) (means ts at p.Semicolon e)))
   good_declared {a = a} {at = at} p.Semicolon e (in_const {n = n} {fs = fs} {rs = rs} {rs' = rs'} sp g c) d =
       let l = close_commas c (more a none) at (last_declared d) in
-      good_built (plain k.Const) mo.Done fs rs (at + 1) (gather (n + 1) (a ∷ rs') none) l.parts (ap (λ x. gather (n + 1) x none) l.stack ∙ gathers l.parts 0 (n + 1) rs (omega (arith, l.count)))
+      good_built (bare k.Const) mo.Done fs rs (at + 1) (gather (n + 1) (a ∷ rs') none) l.parts (ap (λ x. gather (n + 1) x none) l.stack ∙ gathers l.parts 0 (n + 1) rs (omega (arith, l.count)))
       (done_statement sp (const g l.listed (means ts at p.Semicolon e)))
   good_declared {a = a} {at = at} p.Semicolon e (in_for_let {n = n} {fs = fs} {rs = rs} {rs' = rs'} sp op g c) d =
       let l = close_commas c (more a none) at (last_declared d) in
-      good_built (plain k.Let) mo.Behind (f.ForFirst ∷ fs) rs at (gather (n + 1) (a ∷ rs') none) l.parts (ap (λ x. gather (n + 1) x none) l.stack ∙ gathers l.parts 0 (n + 1) rs (omega (arith, l.count)))
+      good_built (bare k.Let) mo.Behind (f.ForFirst ∷ fs) rs at (gather (n + 1) (a ∷ rs') none) l.parts (ap (λ x. gather (n + 1) x none) l.stack ∙ gathers l.parts 0 (n + 1) rs (omega (arith, l.count)))
       (behind_lets sp op (lets g l.listed) (means ts at p.Semicolon e))
   good_declared _ e (in_let sp g c) d = tt
   good_declared _ e (in_const sp g c) d = tt
@@ -410,7 +413,7 @@ module _ (stop : Stop) (ts : List Spanned) (start : ℕ) where
 
   good_catch_name : {fs : List Frame} {rs : List Rose} {at : ℕ} (x : Terminal) → terminal_at ts at ≡ x → CatchNames ts start fs rs at → Good stop ts start (apply (catch_name_move x (terminal_at ts (at + 1))) fs rs at)
   good_catch_name {at = at} (p.Name x) e (catch_name {b = b} {fs = fs} {rs = rs} {m = m} sp g d u o q) =
-      on_close (f.CatchBlock true ∷ fs) (b ∷ rs) at (at + 1) (Leaf (titled k.Param x) mo.Brace 2) (terminal_at ts (at + 1)) refl (λ c.
+      on_close (f.CatchBlock true ∷ fs) (b ∷ rs) at (at + 1) (Leaf (named k.Param x) mo.Brace 2) (terminal_at ts (at + 1)) refl (λ c.
       in_catch sp g d (subst (λ y. CatchHead ts true (b ∷ rs) (param x ∷ b ∷ rs) m (y + 1 + 1)) (sym q)
       (head_named u o (subst (λ y. RoleAt ts y (r.Name x)) q (means ts at (p.Name x) e)) (subst (λ y. RoleAt ts (y + 1) r.Close) q c))))
   good_catch_name _ e (catch_name sp g d u o q) = tt

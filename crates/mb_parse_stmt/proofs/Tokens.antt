@@ -8,12 +8,12 @@ use Rattle.mb_token.specs.declared.mark.Mark.{Mark}
 use Rattle.mb_token.specs.declared.mark.Mark.TheVariants as m
 use Rattle.mb_token.specs.declared.word.Word.{Word}
 use Rattle.mb_token.specs.declared.word.Word.TheVariants as w
-use Rattle.mb_parse_expr.specs.declared.role.Role.{Role}
-use Rattle.mb_parse_expr.specs.declared.role.Role.TheVariants as r
-use Rattle.mb_parse_expr.specs.Roles.{role_of, word_role, mark_role, token_at, RoleAt, NoRoleAt, WordAt}
+use Rattle.mb_grammar.specs.declared.role.Role.{Role}
+use Rattle.mb_grammar.specs.declared.role.Role.TheVariants as r
+use Rattle.mb_grammar.specs.Tokens.{role_of, word_role, mark_role, token_at, RoleAt, NoRoleAt, WordAt}
 use Rattle.mb_parse_stmt.specs.declared.terminal.Terminal.{Terminal}
 use Rattle.mb_parse_stmt.specs.declared.terminal.Terminal.TheVariants as p
-use Rattle.mb_parse_stmt.specs.Terminals.{word_terminal, mark_terminal, terminal_of, terminal_at}
+use Rattle.mb_parse_stmt.specs.machine.Terminals.{word_terminal, mark_terminal, terminal_of, terminal_at}
 
 -- from a terminal to the token
 

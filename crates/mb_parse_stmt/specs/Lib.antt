@@ -1,7 +1,1 @@
-pub mod Terminals
-pub mod Machine
-pub mod Covers
-pub mod Reads
-pub mod Answers
-pub mod Script
-pub mod Levels
+pub mod machine

@@ -2,9 +2,9 @@
 ghost use Rattle.std.specs.Prelude.{◌≡◌, ◌⊎◌, ℕ, List};
 ghost use Rattle.mb_token.specs.declared.token.Spanned.{Spanned};
 ghost use Rattle.mb_tree.specs.Roses.{Rose};
-ghost use Rattle.mb_parse_expr.specs.declared.machine.Level.{Level};
-ghost use Rattle.mb_parse_expr.specs.Bodies.{HasOneBody, HasOneExpression};
-ghost use Rattle.mb_parse_stmt.specs.Script.{IsScript};
+ghost use Rattle.mb_grammar.specs.declared.level.Level.{Level};
+ghost use Rattle.mb_grammar.specs.Bodies.{HasOneBody, HasOneExpression};
+ghost use Rattle.mb_grammar.specs.Script.{IsScript};
 
 /// Tokens have at most one tree.
 pub fn token_lists_have_one_tree()
@@ -13,7 +13,8 @@ pub fn token_lists_have_one_tree()
 
 /// Tokens have a tree, or they have none: which of the two is decided.
 pub fn token_lists_have_a_tree_or_none()
-    ensures { (ts : List Spanned) → ((script : Rose) × IsScript ts script) ⊎ ((script : Rose) → IsScript ts script → ⊥) }
+    ensures { (ts : List Spanned)
+        → ((script : Rose) × IsScript ts script) ⊎ ((script : Rose) → IsScript ts script → ⊥) }
 {}
 
 /// At most one expression of a level stands at a place, with one list of bodies and one end.

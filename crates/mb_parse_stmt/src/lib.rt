@@ -1,8 +1,14 @@
 //! The parser of scripts, which drives the parser of expressions.
 #![tactic(auto)]
 
+mod beginnings;
+mod declarations;
+mod endings;
+mod expects;
+mod heads;
 mod laws;
 mod machine;
+mod parameters;
 mod parser;
 mod statements;
 mod terminal;

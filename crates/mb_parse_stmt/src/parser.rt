@@ -2,9 +2,9 @@
 ghost use Rattle.std.specs.Prelude.{◌≡◌, ℕ, ◌+◌, ◌≤◌, ◌<◌, ◌^◌, List, [], ◌∷◌, ◌++◌, length, vec_len, IfOk, OnOk, Err};
 ghost use Rattle.mb_tree.specs.Roses.{Rose, Roses, shapes, write, write_all, roots};
 ghost use Rattle.mb_tree.specs.Heights.{height_of};
-ghost use Rattle.mb_parse_stmt.specs.Answers.{taken};
-ghost use Rattle.mb_parse_stmt.specs.Script.{IsScript, script_of};
-ghost use Rattle.mb_parse_stmt.specs.Levels.{AtLevel, Nexts, IsFrom};
+ghost use Rattle.mb_parse_stmt.specs.machine.Stops.{taken};
+ghost use Rattle.mb_grammar.specs.Script.{IsScript, script_of};
+ghost use Rattle.mb_parse_stmt.specs.machine.Levels.{AtLevel, Nexts, IsFrom};
 
 use crate::machine::Stop;
 use crate::statements::{StatementParser, Step};
@@ -82,7 +82,7 @@ fn next_parser(
     outers: &mut Vec<Outer>,
     statements: &mut StatementParser,
 ) -> Result<Next, NoMemory>
-    requires few { length tokens.now ≤ 1048576 }
+    requires few { length tokens.now ≤ 1_048_576 }
     requires level { AtLevel tokens.now outers.old.items statements.old (shapes tree.old) }
     ensures nexts { IfOk result (Nexts tokens.now outers.new.items statements.new (shapes tree.new)) }
     ensures from { IfOk result (IsFrom (statements.old.at + taken statements.old.mode) (length tokens.now)) }
@@ -137,11 +137,12 @@ fn script(alloc: Global, tree: Tree, statements: StatementParser) -> Result<Tree
 /// The tree of a script (ECMA-262, 16.1): its nodes stand behind those of their parts, and the Script node is the last.
 /// It needs no more stack for deeper tokens.
 pub fn parse(alloc: Global, tokens: &[Spanned]) -> Result<Tree, ParseFault>
-    requires { length tokens.now ≤ 1048576 }
+    requires { length tokens.now ≤ 1_048_576 }
     ensures tree { IfOk result (λ tree.
         (script : Rose) × IsScript tokens.now script × (shapes tree ≡ write [] script) × (height_of script ≤ 256)) }
     ensures shape { result ≡ Err ParseFault.Shape → (script : Rose) → IsScript tokens.now script → ⊥ }
-    ensures deep { result ≡ Err ParseFault.Deep → (script : Rose) × IsScript tokens.now script × (256 < height_of script) }
+    ensures deep { result ≡ Err ParseFault.Deep →
+        (script : Rose) × IsScript tokens.now script × (256 < height_of script) }
     ensures few { IfOk result (λ tree. vec_len tree.nodes < 2 ^ 32) }
 {
     let mut tree = Tree {

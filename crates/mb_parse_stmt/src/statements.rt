@@ -1,11 +1,12 @@
 // The parser of the statements of one level.
 ghost use Rattle.std.specs.Prelude.{◌≡◌, ℕ, ◌+◌, ◌≤◌, ◌<◌, ◌^◌, List, [], ◌∷◌, ◌++◌, length, vec_len, IfOk, OnOk, Option};
 ghost use Rattle.mb_tree.specs.Roses.{Shape, shapes, shape, id_of};
-ghost use Rattle.mb_parse_expr.specs.Roles as roles;
-ghost use Rattle.mb_parse_expr.specs.Reads.{IsTree};
-ghost use Rattle.mb_parse_stmt.specs.Terminals as terminals;
-ghost use Rattle.mb_parse_stmt.specs.Machine as spec;
-ghost use Rattle.mb_parse_stmt.specs.Answers.{IsReading, IsWanting, Answers, Moves, taken};
+ghost use Rattle.mb_grammar.specs.Tokens as roles;
+ghost use Rattle.mb_parse_expr.specs.Pauses.{IsTree};
+ghost use Rattle.mb_parse_stmt.specs.machine.Terminals as terminals;
+ghost use Rattle.mb_tree.specs.machine.Stack.{top, laid};
+ghost use Rattle.mb_parse_stmt.specs.machine.Machine as spec;
+ghost use Rattle.mb_parse_stmt.specs.machine.Stops.{IsReading, IsWanting, Tells, Moves, taken};
 
 use crate::machine::{Frame, Holder, Mode, Move, Stop, View, next_move};
 use crate::terminal::{Terminal, classify};
@@ -37,7 +38,7 @@ pub struct StatementParser {
 }
 
 fn top_of(frames: &[Frame]) -> Option<Frame>
-    ensures { (fs : List Frame) → frames.now ≡ spec.laid fs → result ≡ spec.top fs }
+    ensures { (fs : List Frame) → frames.now ≡ laid fs → result ≡ top fs }
 {
     frames.last().copied()
 }
@@ -51,8 +52,8 @@ fn terminal_at(tokens: &[Spanned], at: usize) -> Terminal
     }
 }
 
-fn is_fresh(tokens: &[Spanned], at: usize) -> bool
-    ensures { result ≡ roles.fresh_at tokens.now at }
+fn is_after_line(tokens: &[Spanned], at: usize) -> bool
+    ensures { result ≡ roles.after_line_at tokens.now at }
 {
     match tokens.get(at) {
         Some(spanned) => spanned.after_line,
@@ -85,7 +86,7 @@ fn view(stop: Stop, tokens: &[Spanned], at: usize) -> View
         here,
         next: terminal_at(tokens, at + 1),
         third: terminal_at(tokens, at + 1 + 1),
-        fresh: is_fresh(tokens, at + 1),
+        after_line: is_after_line(tokens, at + 1),
         stops: stops(stop, here),
     }
 }
@@ -95,7 +96,8 @@ impl StatementParser {
     pub fn begin(alloc: Global, at: u32, stop: Stop) -> Result<StatementParser, NoMemory>
         ensures place { IfOk result (λ parser. (parser.at ≡ at) × (taken parser.mode ≡ 0)) }
         ensures kept { IfOk result (λ parser. parser.stop ≡ stop) }
-        ensures reading { (ts : List Spanned) (base : List Shape) → at ≤ length ts → IfOk result (λ parser. IsReading ts at base parser base) }
+        ensures reading { (ts : List Spanned) (base : List Shape) → at ≤ length ts
+            → IfOk result (λ parser. IsReading ts at base parser base) }
     {
         let mut frames = Vec::new(alloc);
         frames.push(Frame::Statements(Holder::Top, 0))?;
@@ -108,16 +110,19 @@ impl StatementParser {
         })
     }
 
-    /// Reads on, up to an expression or the end. After `Wrong` or `NoMemory` the parser isn't used again.
+    /// Reads on, up to an expression or the end. Once it has answered `Wrong` or `NoMemory` it is of no more use.
     pub fn advance(
         &mut self,
         alloc: Global,
         tokens: &[Spanned],
         tree: &mut Tree,
     ) -> Result<Step, NoMemory>
-        requires few { length tokens.now ≤ 1048576 }
-        requires reading { (start : ℕ) × (base : List Shape) × IsReading tokens.now start base self.old (shapes tree.old) }
-        ensures answers { (start : ℕ) (base : List Shape) → IsReading tokens.now start base self.old (shapes tree.old) → IfOk result (Answers tokens.now start base self.new (shapes tree.new)) }
+        requires few { length tokens.now ≤ 1_048_576 }
+        requires reading { (start : ℕ) × (base : List Shape)
+            × IsReading tokens.now start base self.old (shapes tree.old) }
+        ensures answers { (start : ℕ) (base : List Shape)
+            → IsReading tokens.now start base self.old (shapes tree.old)
+            → IfOk result (Tells tokens.now start base self.new (shapes tree.new)) }
         ensures kept { self.new.stop ≡ self.old.stop }
         ensures forward { IfOk result (Moves self.old self.new) }
     {
@@ -161,7 +166,8 @@ impl StatementParser {
         ensures place { OnOk result ((self.new.at ≡ next) × (taken self.new.mode ≡ 1)) }
         ensures kept { self.new.stop ≡ self.old.stop }
         ensures reading { (ts : List Spanned) (start : ℕ) (base out now : List Shape) (level : Level) (ds : List ℕ) →
-            IsWanting ts start base level self.old out → IsTree ts level self.old.at ds out now next root → OnOk result (IsReading ts start base self.new now) }
+            IsWanting ts start base level self.old out → IsTree ts level self.old.at ds out now next root
+            → OnOk result (IsReading ts start base self.new now) }
     {
         self.operands.push(root)?;
         self.mode = Mode::Behind;

@@ -1,6 +1,6 @@
 // What tokens are to the grammar of statements.
 ghost use Rattle.std.specs.Prelude.{◌≡◌};
-ghost use Rattle.mb_parse_stmt.specs.Terminals.{terminal_of, word_terminal, mark_terminal};
+ghost use Rattle.mb_parse_stmt.specs.machine.Terminals.{terminal_of, word_terminal, mark_terminal};
 
 use mb_base::StrId;
 use mb_token::{Mark, Token, Word};

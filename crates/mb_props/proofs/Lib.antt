@@ -1,3 +1,2 @@
-pub mod Places
-pub mod Distinct
+pub mod Keys
 pub mod Order

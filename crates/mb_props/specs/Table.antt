@@ -1,13 +1,16 @@
--- A table of properties: the pairs of key and property in order of creation.
-use Rattle.std.specs.Prelude.{Bool, ◌==◌, ◌&&◌, List, [], ◌∷◌, Option, if◌then◌else◌}
+-- A table of own properties: a list of pairs, the property that was made first at its head.
+use Rattle.std.specs.Prelude.{Bool, false, ◌==◌, ◌&&◌, List, Option}
 use Rattle.std.specs.List.{IsDistinct}
 use Rattle.std.specs.Map.{keys_of, lookup, remove_entry}
 use Rattle.mb_base.specs.declared.value.Key.{Key}
+use Rattle.mb_base.specs.declared.value.Key.TheVariants.{Text, Symbol}
 use Rattle.indexmap.specs.IndexMap.{insert_entry as insert}
 
 -- the two keys are the same
 abbrev pub same_key : Key → Key → Bool
-same_key a b = a.text.0 == b.text.0 && a.index == b.index
+same_key (Text a i) (Text b j) = a.0 == b.0 && i == j
+same_key (Symbol a) (Symbol b) = a.0 == b.0
+same_key _ _ = false
 
 module _ {P : Type 0} where
   -- no key has two pairs

@@ -1,20 +1,21 @@
-//! The table of an object's own properties: keys with their properties, in order of creation.
+//! The table of an object's own properties.
 #![tactic(auto)]
 
-ghost use Rattle.std.specs.Prelude.{◌≡◌, ◌≢◌, [], None, IsOk, IfOk, OnOk, OnErr, slice_get, is_some, position};
+ghost use Rattle.std.specs.Prelude.{◌≡◌, ◌≢◌, [], None, IsOk, IfOk, OnOk, OnErr, slice_get, is_some};
 ghost use Rattle.std.specs.Map.{keys_of};
-ghost use Rattle.mb_props.specs.Table.{HasDistinctKeys, found, insert_entry, without, same_key};
-ghost use Rattle.mb_props.specs.KeyOrder.{array_indices, other_keys, IsInKeyOrder, KeyOrderIsOne};
+ghost use Rattle.mb_props.specs.Table.{HasDistinctKeys, found, insert_entry, without};
+ghost use Rattle.mb_props.specs.KeyOrder.{index_of, is_array_index, is_name, is_symbol, array_indices, names, symbols, IsInKeyOrder, KeyOrderIsOne};
 
+use indexmap::IndexMap;
 use mb_base::{Key, NoMemory};
 use std::alloc::{AllocError, Global};
 use std::marker::Model;
 
-/// The own properties of an object, seen as the list of pairs of key and property in order
-/// of creation. No key has two pairs.
+/// An object's own properties. The table is seen as a list of pairs, each a key with its property, the
+/// earliest made at the head.
 #[derive(Drop)]
 pub struct Props<P: Copy> {
-    pairs: Vec<(Key, P)>,
+    pairs: IndexMap<Key, P>,
 }
 
 impl<P: Copy> Model for Props<P> {
@@ -24,77 +25,69 @@ impl<P: Copy> Model for Props<P> {
 
     ghost Value = { List (Key × P) };
 
-    ghost view = { λ table. table.pairs.items };
+    ghost view = { λ table. table.pairs.entries };
 
-    ghost invariant = { λ table. HasDistinctKeys table.pairs.items };
+    ghost invariant = { λ table. HasDistinctKeys table.pairs.entries };
 }
 
 impl<P: Copy> Props<P> {
-    /// An empty table.
+    /// A table without properties.
     pub fn new(alloc: Global) -> Props<P>
         ensures { result ≡ [] }
     {
         Props {
-            pairs: Vec::new(alloc),
+            pairs: IndexMap::new(alloc),
         }
     }
 
-    /// The property of the key, or `None` where the table lacks it.
+    /// The key's property, if it has one; in constant time on average.
     pub fn get(&self, key: Key) -> Option<P>
         ensures value { result ≡ found self.now key }
         ensures distinct { HasDistinctKeys self.now }
     {
-        match place_of(&self.pairs, key) {
-            Some(place) => Some(self.pairs[place].1),
+        match self.pairs.get(&key) {
+            Some(property) => Some(*property),
             None => None,
         }
     }
 
-    /// Gives the key that property. A key that is there keeps its place, and this takes no memory;
-    /// a new key goes last.
+    /// Sets the key's property, in constant time on average. Only for a new key, which goes to the
+    /// end, may it want memory.
     pub fn put(&mut self, key: Key, property: P) -> Result<(), NoMemory>
         ensures put { OnOk result (self.new ≡ insert_entry self.old key property) }
         ensures unchanged { OnErr result (self.new ≡ self.old) }
         ensures there { found self.old key ≢ None → IsOk result }
         ensures distinct { HasDistinctKeys self.new }
     {
-        match place_of(&self.pairs, key) {
-            Some(place) => {
-                self.pairs[place].1 = property;
-                Ok(())
-            }
-            None => match self.pairs.push((key, property)) {
-                Ok(()) => Ok(()),
-                Err(_) => Err(NoMemory),
-            },
+        match self.pairs.insert(key, property) {
+            Ok(_) => Ok(()),
+            Err(_) => Err(NoMemory),
         }
     }
 
-    /// Takes the key out, and tells whether it was there. The rest keep their order.
+    /// Takes the key's pair out, if there is one, and tells whether there was. The pairs behind it move
+    /// up by one, so this takes time by their number.
     pub fn remove(&mut self, key: Key) -> bool
         ensures removed { self.new ≡ without self.old key }
         ensures was { result ≡ is_some (found self.old key) }
         ensures distinct { HasDistinctKeys self.new }
     {
-        match place_of(&self.pairs, key) {
-            Some(place) => {
-                let _ = self.pairs.remove(place);
-                true
-            }
-            None => false,
-        }
+        self.pairs.shift_remove(&key).is_some()
     }
 
-    /// The pair at that place of the list, or `None` past its end.
+    /// The pair that has this many before it, if the table is that long; in constant time.
     pub fn at(&self, place: u32) -> Option<(Key, P)>
         ensures value { result ≡ slice_get self.now place }
         ensures distinct { HasDistinctKeys self.now }
     {
-        self.pairs.get(place as usize).copied()
+        match self.pairs.get_index(place as usize) {
+            Some((key, property)) => Some((*key, *property)),
+            None => None,
+        }
     }
 
-    /// The keys as OrdinaryOwnPropertyKeys lists them (ECMA-262, 10.1.11.1): the array indices
-    /// ascending, then the others in order of creation.
+    /// The keys as OrdinaryOwnPropertyKeys lists them (ECMA-262, 10.1.11.1): ascending array indices,
+    /// then the texts that are none, then the symbols, the last two as they were made.
     pub fn keys_in_order(&self) -> Result<Vec<Key>, NoMemory>
         ensures order { IfOk result (λ keys. IsInKeyOrder (keys_of self.now) keys.items) }
         ensures distinct { HasDistinctKeys self.now }
@@ -106,43 +99,75 @@ impl<P: Copy> Props<P> {
     }
 }
 
-// The place of the key's pair among the pairs.
-fn place_of<P: Copy>(pairs: &[(Key, P)], key: Key) -> Option<usize>
-    ensures { result ≡ position (λ pair. same_key key pair.0) pairs.now }
+// The index that the key spells, or `u32::MAX` where it spells none.
+fn index_of(key: Key) -> u32
+    ensures { result ≡ index_of key }
 {
-    pairs.iter().position(|pair| key == pair.0)
+    match key {
+        Key::Text { index, .. } => index,
+        Key::Symbol(_) => u32::MAX,
+    }
 }
 
-// The keys that are array indices, in order of creation.
-fn indices_of<P: Copy>(alloc: Global, pairs: &[(Key, P)]) -> Result<Vec<Key>, AllocError>
-    ensures { IfOk result (λ keys. keys.items ≡ array_indices (keys_of pairs.now)) }
+fn is_symbol(key: Key) -> bool
+    ensures { result ≡ is_symbol key }
+{
+    matches!(key, Key::Symbol(_))
+}
+
+fn is_array_index(key: Key) -> bool
+    ensures { result ≡ is_array_index key }
+{
+    index_of(key) != u32::MAX
+}
+
+// Whether the key is a text and no array index.
+fn is_name(key: Key) -> bool
+    ensures { result ≡ is_name key }
+{
+    !is_symbol(key) && !is_array_index(key)
+}
+
+fn indices_of<P: Copy>(alloc: Global, pairs: &IndexMap<Key, P>) -> Result<Vec<Key>, AllocError>
+    ensures { IfOk result (λ keys. keys.items ≡ array_indices (keys_of pairs.now.entries)) }
 {
     pairs
-        .iter()
-        .map(|pair| pair.0)
-        .filter(|key| key.index != u32::MAX)
+        .keys()
+        .copied()
+        .filter(|key| is_array_index(*key))
         .collect(alloc)
 }
 
-// The keys that are none, in order of creation.
-fn others_of<P: Copy>(alloc: Global, pairs: &[(Key, P)]) -> Result<Vec<Key>, AllocError>
-    ensures { IfOk result (λ keys. keys.items ≡ other_keys (keys_of pairs.now)) }
+fn names_of<P: Copy>(alloc: Global, pairs: &IndexMap<Key, P>) -> Result<Vec<Key>, AllocError>
+    ensures { IfOk result (λ keys. keys.items ≡ names (keys_of pairs.now.entries)) }
 {
     pairs
-        .iter()
-        .map(|pair| pair.0)
-        .filter(|key| key.index == u32::MAX)
+        .keys()
+        .copied()
+        .filter(|key| is_name(*key))
         .collect(alloc)
 }
 
-// The array indices sorted, and then the others.
-fn ordered_keys<P: Copy>(alloc: Global, pairs: &[(Key, P)]) -> Result<Vec<Key>, AllocError>
-    ensures { IfOk result (λ keys. IsInKeyOrder (keys_of pairs.now) keys.items) }
+fn symbols_of<P: Copy>(alloc: Global, pairs: &IndexMap<Key, P>) -> Result<Vec<Key>, AllocError>
+    ensures { IfOk result (λ keys. keys.items ≡ symbols (keys_of pairs.now.entries)) }
+{
+    pairs
+        .keys()
+        .copied()
+        .filter(|key| is_symbol(*key))
+        .collect(alloc)
+}
+
+// The array indices sorted, then the names, then the symbols.
+fn ordered_keys<P: Copy>(alloc: Global, pairs: &IndexMap<Key, P>) -> Result<Vec<Key>, AllocError>
+    ensures { IfOk result (λ keys. IsInKeyOrder (keys_of pairs.now.entries) keys.items) }
 {
     let mut keys = indices_of(alloc, pairs)?;
-    let others = others_of(alloc, pairs)?;
-    keys.sort_by_key(|key| key.index)?;
-    keys.extend_from_slice(&others)?;
+    let names = names_of(alloc, pairs)?;
+    let symbols = symbols_of(alloc, pairs)?;
+    keys.sort_by_key(|key| index_of(*key))?;
+    keys.extend_from_slice(&names)?;
+    keys.extend_from_slice(&symbols)?;
     Ok(keys)
 }
 
@@ -152,73 +177,4 @@ pub fn key_order_is_one()
 {}
 
 #[cfg(test)]
-mod tests {
-    use super::*;
-    use mb_base::{StrId, Value};
-    use std::test::Fail;
-
-    fn name(text: u32) -> Key {
-        Key {
-            text: StrId(text),
-            index: u32::MAX,
-        }
-    }
-
-    fn index(text: u32, index: u32) -> Key {
-        Key {
-            text: StrId(text),
-            index,
-        }
-    }
-
-    #[test]
-    fn keeps_the_order_of_creation(rt: HostRuntime) -> Result<(), Fail> {
-        let mut table: Props<Value> = Props::new(rt.alloc());
-        let keys = [
-            name(0),
-            index(1, 10),
-            name(2),
-            index(3, 9),
-            index(4, 0),
-            index(5, u32::MAX - 1),
-        ];
-        for (place, key) in keys.iter().enumerate() {
-            table.put(*key, Value::Whole(place as i64))?;
-        }
-        table.put(name(0), Value::Null)?;
-        assert_eq!(rt; table.get(name(0)), Some(Value::Null));
-        assert_eq!(rt; table.get(index(3, 9)), Some(Value::Whole(3)));
-        assert_eq!(rt; table.get(name(3)), None);
-        assert_eq!(rt; table.at(0), Some((name(0), Value::Null)));
-        assert_eq!(rt;
-            table.at(5),
-            Some((index(5, u32::MAX - 1), Value::Whole(5)))
-        );
-        assert_eq!(rt; table.at(6), None);
-        let ordered = [
-            index(4, 0),
-            index(3, 9),
-            index(1, 10),
-            index(5, u32::MAX - 1),
-            name(0),
-            name(2),
-        ];
-        assert_eq!(rt; table.keys_in_order()?.as_slice(), ordered.as_slice());
-        assert_eq!(rt; table.remove(index(1, 10)), true);
-        assert_eq!(rt; table.remove(index(1, 10)), false);
-        assert_eq!(rt; table.at(1), Some((name(2), Value::Whole(2))));
-        table.put(index(1, 10), Value::Undefined)?;
-        assert_eq!(rt; table.at(5), Some((index(1, 10), Value::Undefined)));
-        Ok(())
-    }
-
-    #[test]
-    fn empty_table(rt: HostRuntime) -> Result<(), Fail> {
-        let mut table: Props<u8> = Props::new(rt.alloc());
-        assert_eq!(rt; table.get(name(0)), None);
-        assert_eq!(rt; table.at(0), None);
-        assert_eq!(rt; table.remove(name(0)), false);
-        assert_eq!(rt; table.keys_in_order()?.len(), 0);
-        Ok(())
-    }
-}
+mod tests;

@@ -6,7 +6,8 @@ use Rattle.mb_base.specs.declared.value.NodeId.{NodeId}
 use Rattle.mb_tree.specs.declared.tree.Node.{Node}
 use Rattle.mb_tree.specs.declared.tree.Tree.{Tree}
 use Rattle.mb_tree.specs.Roses.{view, shapes}
-use Rattle.mb_tree.specs.Heights.{IsWhole, AreAmong}
+use Rattle.mb_tree.specs.Heights.{IsWhole}
+use Rattle.mb_tree.specs.machine.Below.{AreAmong}
 use Rattle.mb_tree.proofs.Heights.{view_there, view_next, parts_first}
 use Rattle.mb_scope.specs.declared.binding.Declares.{Declares}
 use Rattle.mb_scope.specs.Kinds.{is_decl, declares_of}

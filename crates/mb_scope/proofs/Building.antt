@@ -4,10 +4,10 @@ use Rattle.std.proofs.lemmas.List.{take_all}
 use Rattle.std.proofs.Math.Seq.{take-append_seam, drop-append_seam}
 use Rattle.mb_base.specs.declared.value.NodeId.{NodeId}
 use Rattle.mb_tree.specs.Roses.{Rose, Roses, node, none, Label, Shape, shape, id_of, write_all, roots}
-use Rattle.mb_tree.specs.Operands.{written, places, Gathered, Short, Got, gather}
+use Rattle.mb_tree.specs.machine.Operands.{written, places, Gathered, Short, Got, gather}
 use Rattle.mb_tree.specs.Heights.{IsWhole, whole}
 use Rattle.mb_tree.proofs.Written.{gather_written, gather_places, gather_size, roots_length, places_length}
-use Rattle.mb_scope.specs.Rows.{IsBuilt}
+use Rattle.mb_scope.specs.machine.Rows.{IsBuilt}
 
 pub built_none : (shapes : List Shape) (waiting : List NodeId) → shapes ≡ [] → waiting ≡ [] → IsBuilt shapes waiting
 built_none shapes waiting s w = record { trees = []; shapes_are = s; waiting_are = w }

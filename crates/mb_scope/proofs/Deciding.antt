@@ -14,17 +14,18 @@ use Rattle.mb_scope.specs.declared.fault.NameFault.{NameFault}
 use Rattle.mb_scope.specs.declared.fault.NameFault.TheVariants.{Twice, Stray, BadTarget, NoMemory}
 use Rattle.mb_scope.specs.declared.jump.Jump.{Jump}
 use Rattle.mb_scope.specs.declared.jump.Jump.TheVariants as j
-use Rattle.mb_scope.specs.declared.target.Form.{Form}
-use Rattle.mb_scope.specs.declared.target.Form.TheVariants.{Simple, Grouped, Invalid}
+use Rattle.mb_scope.specs.declared.target.TargetType.{TargetType}
+use Rattle.mb_scope.specs.declared.target.TargetType.TheVariants.{Simple, Grouped, Invalid}
 use Rattle.mb_scope.specs.declared.target.Use.{Use}
 use Rattle.mb_scope.specs.declared.target.Use.TheVariants.{Assigns, Deletes, Reads}
-use Rattle.mb_scope.specs.Kinds.{is_function, is_loop, jump_of, form_of, use_of, is_property}
+use Rattle.mb_scope.specs.Kinds.{is_function, is_loop, jump_of, target_type_of, use_of, is_property, group_part, operand_of}
 use Rattle.mb_scope.specs.Bindings.{together, Repeats, IsTwice}
 use Rattle.mb_scope.specs.Jumps.{InFunction, InLoop, Strays, IsStray}
 use Rattle.mb_scope.specs.Targets.{IsTarget, IsProperty, MissesAt, MissesFirst, IsBadTarget}
 use Rattle.mb_scope.specs.Faults.{Breaks, IsRight, place_of, IsLeast}
 use Rattle.mb_scope.proofs.Lists.{among_or}
 use Rattle.mb_scope.proofs.Knowing.{PartsFirst, part_before, IsPassedOn, GivesFunction, GivesLoop, function_passed, loop_passed}
+use Rattle.mb_scope.proofs.Picking.{group_first}
 use Rattle.mb_scope.proofs.Targeting.{target_simple, target_invalid, target_up, target_down, target_empty, no_target}
 use Rattle.mb_scope.proofs.Ruling.{fault_within}
 
@@ -181,20 +182,20 @@ target : (shapes : List Shape) → PartsFirst shapes → (n : ℕ) (id : NodeId)
 target shapes ordered zero id h = absurd (omega arith)
 target shapes ordered (suc n) id h = at (λ part lt. target shapes ordered n part lt) (slice_get shapes id.0) refl
   where
-    part_at : ((part : NodeId) → part.0 < n → Decided (IsTarget shapes part)) → (node : Shape) → slice_get shapes id.0 ≡ Some node → form_of node.label.kind ≡ Grouped → (o : Option NodeId) → slice_get node.children 0 ≡ o → Decided (IsTarget shapes id)
+    part_at : ((part : NodeId) → part.0 < n → Decided (IsTarget shapes part)) → (node : Shape) → slice_get shapes id.0 ≡ Some node → target_type_of node.label.kind ≡ Grouped → (o : Option NodeId) → group_part node.label.kind node.children ≡ o → Decided (IsTarget shapes id)
     part_at rest node e f None p = inr (target_empty shapes id node e f p)
     part_at rest node e f (Some part) p =
-        let lt : part.0 < id.0 = ordered id.0 node e 0 part p in
+        let lt : part.0 < id.0 = ordered id.0 node e 0 part (group_first node.label.kind node.children part p) in
         same (IsTarget shapes part) (IsTarget shapes id) (target_up shapes id part node e f p) (target_down shapes id part node e f p) (rest part (omega arith))
 
-    of_form : ((part : NodeId) → part.0 < n → Decided (IsTarget shapes part)) → (node : Shape) → slice_get shapes id.0 ≡ Some node → (f : Form) → form_of node.label.kind ≡ f → Decided (IsTarget shapes id)
+    of_form : ((part : NodeId) → part.0 < n → Decided (IsTarget shapes part)) → (node : Shape) → slice_get shapes id.0 ≡ Some node → (f : TargetType) → target_type_of node.label.kind ≡ f → Decided (IsTarget shapes id)
     of_form rest node e Simple f = inl (target_simple shapes id node e f)
     of_form rest node e Invalid f = inr (target_invalid shapes id node e f)
-    of_form rest node e Grouped f = part_at rest node e f (slice_get node.children 0) refl
+    of_form rest node e Grouped f = part_at rest node e f (group_part node.label.kind node.children) refl
 
     at : ((part : NodeId) → part.0 < n → Decided (IsTarget shapes part)) → (o : Option Shape) → slice_get shapes id.0 ≡ o → Decided (IsTarget shapes id)
     at rest None e = inr (no_target shapes id e)
-    at rest (Some node) e = of_form rest node e (form_of node.label.kind) refl
+    at rest (Some node) e = of_form rest node e (target_type_of node.label.kind) refl
 
 property : (shapes : List Shape) (id : NodeId) → Decided (IsProperty shapes id)
 property shapes id = at (slice_get shapes id.0) refl
@@ -220,7 +221,7 @@ bad_target shapes ordered id = at (slice_get shapes id.0) refl
     at (Some node) e = same (MissesFirst shapes node) (IsBadTarget shapes id)
         (λ h. record { node = node; is = e; misses = h })
         (λ t. let node_is : t.node ≡ node = let h = t.is in cc in subst (MissesFirst shapes) node_is t.misses)
-        (misses shapes ordered (use_of node.label.kind) (slice_get node.children 0))
+        (misses shapes ordered (use_of node.label.kind) (operand_of node.label.kind node.children))
 
 -- a fault at a place
 abbrev FaultAt : List Shape → ℕ → Type 0

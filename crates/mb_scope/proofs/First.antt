@@ -2,7 +2,7 @@
 use Rattle.std.proofs.Common.{◌≡◌, ℕ, ◌<◌, ◌≤◌, Bool, true, false, refl, arith, ⊎_elim}
 use Rattle.std.specs.Prelude.{Option, Some, None, nat_lt, if◌then◌else◌, ◌⊎◌}
 use Rattle.std.proofs.lemmas.Bool.{ltb-true, ltb-false}
-use Rattle.mb_scope.specs.First.{IsFirst, sooner}
+use Rattle.mb_scope.specs.machine.First.{IsFirst, sooner}
 
 module _ {X : Type 0} (place : X → ℕ) where
   pub first_along : (P R : X → Type 0) (a : Option X) → ((x : X) → P x → R x) → ((x : X) → R x → P x) → IsFirst place P a → IsFirst place R a

@@ -3,21 +3,20 @@ use Rattle.std.proofs.Common.{◌≡◌, ℕ, ◌+◌, ◌<◌, ◌≤◌, Bool,
 use Rattle.std.specs.Prelude.{slice_get, ◌⊎◌, None, Option}
 use Rattle.std.specs.List.{Contains}
 use Rattle.std.proofs.lemmas.Bool.{cases_eq, or_cases}
-use Rattle.std.proofs.lemmas.List.{length-replicate, get_or-replicate}
+use Rattle.std.proofs.lemmas.List.{length-replicate, get_or-replicate, take_more, take_all}
 use Rattle.std.proofs.Math.Seq.{take-append_seam}
 use Rattle.std.proofs.lemmas.Option.{slice_get_within, slice_get-get_or, get_or_from_slice_get}
 use Rattle.mb_base.specs.declared.value.NodeId.{NodeId}
 use Rattle.mb_tree.specs.Roses.{Shape, id_of}
-use Rattle.mb_tree.specs.Heights.{AreAmong}
+use Rattle.mb_tree.specs.machine.Below.{AreAmong}
 use Rattle.mb_scope.specs.declared.jump.Around.{Around}
 use Rattle.mb_scope.specs.declared.jump.Jump.{Jump}
 use Rattle.mb_scope.specs.declared.jump.Jump.TheVariants.{FromFunction, FromLoop, Nothing}
-use Rattle.mb_scope.specs.First.{IsFirst}
+use Rattle.mb_scope.specs.machine.First.{IsFirst}
 use Rattle.mb_scope.specs.Kinds.{is_function, is_loop, jump_of}
 use Rattle.mb_scope.specs.Jumps.{IsPart, InFunction, direct_function, outer_function, InLoop, direct_loop, outer_loop, Strays, IsStray}
-use Rattle.mb_scope.specs.Around.{outside, allows_of, inside_of, either, IsPutAround}
+use Rattle.mb_scope.specs.machine.Around.{outside, allows_of, inside_of, either, IsPutAround}
 use Rattle.mb_scope.proofs.Lists.{place_from_contains, among_or, set_same, set_other}
-use Rattle.std.proofs.lemmas.List.{take_more, take_all}
 use Rattle.std.proofs.lemmas.List.Elements.{Contains-push, Contains-push_cases, Contains-append_left}
 
 -- the parts of each node stand before it

@@ -8,3 +8,4 @@ pub mod Deciding
 pub mod Naming
 pub mod Adding
 pub mod Building
+pub mod Picking

@@ -7,7 +7,7 @@ use Rattle.std.proofs.Math.ListN.{drop_of_length-le}
 use Rattle.mb_base.specs.declared.value.NodeId.{NodeId}
 use Rattle.mb_base.specs.declared.value.StrId.{StrId}
 use Rattle.mb_tree.specs.Roses.{Shape, id_of}
-use Rattle.mb_scope.specs.First.{IsFirst, sooner}
+use Rattle.mb_scope.specs.machine.First.{IsFirst, sooner}
 use Rattle.mb_scope.specs.Bindings.{Repeats, together, IsTwice}
 use Rattle.mb_scope.specs.Names.{scope_names, names_from, names_of}
 use Rattle.mb_scope.proofs.First.{first_along, first_or}

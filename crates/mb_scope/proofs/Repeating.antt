@@ -6,7 +6,7 @@ use Rattle.std.proofs.lemmas.Option.{slice_get_within}
 use Rattle.mb_base.specs.declared.value.NodeId.{NodeId}
 use Rattle.mb_base.specs.declared.value.StrId.{StrId}
 use Rattle.mb_scope.specs.declared.binding.Binding.{Binding}
-use Rattle.mb_scope.specs.First.{IsFirst, sooner}
+use Rattle.mb_scope.specs.machine.First.{IsFirst, sooner}
 use Rattle.mb_scope.specs.Bindings.{Repeats}
 use Rattle.mb_scope.proofs.First.{first_along, first_or}
 

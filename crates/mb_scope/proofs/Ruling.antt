@@ -14,12 +14,13 @@ use Rattle.mb_scope.specs.declared.fault.NameFault.TheVariants.{Twice, Stray, Ba
 use Rattle.mb_scope.specs.declared.binding.Binding.{Binding}
 use Rattle.mb_scope.specs.declared.binding.Declares.{Declares}
 use Rattle.mb_scope.specs.declared.binding.Declares.TheVariants.{Itself, Decls, Nothing}
-use Rattle.mb_scope.specs.First.{IsFirst, sooner}
-use Rattle.mb_scope.specs.Kinds.{declares_of, is_decl, jump_of, use_of}
+use Rattle.mb_scope.specs.machine.First.{IsFirst, sooner}
+use Rattle.mb_scope.specs.Kinds.{declares_of, is_decl, jump_of, use_of, operand_of}
 use Rattle.mb_scope.specs.Bindings.{own, decl_of, decl_binding, bound_as, bound_at, bound_by, bindings_of, parts_in, catch_block, in_block, together, IsTwice}
 use Rattle.mb_scope.specs.Jumps.{Strays, IsStray}
 use Rattle.mb_scope.specs.Targets.{MissesAt, IsBadTarget}
-use Rattle.mb_scope.specs.Faults.{Breaks, IsRight, place_of, IsLeast, first_fault_of}
+use Rattle.mb_scope.specs.Faults.{Breaks, IsRight, place_of, IsLeast}
+use Rattle.mb_scope.specs.machine.FirstFault.{first_fault_of}
 use Rattle.mb_scope.proofs.First.{first_or}
 use Rattle.mb_scope.proofs.Lists.{Each, each_append, each_flat_map, each_at}
 
@@ -125,7 +126,7 @@ stray_ruled : (shapes : List Shape) (id : NodeId) → IsStray shapes id → Rule
 stray_ruled shapes id t = record { node = t.node; is = t.is; rule_is = jump_rule shapes id t.node.label.kind t.strays }
 
 target_ruled : (shapes : List Shape) (id : NodeId) → IsBadTarget shapes id → Ruled shapes id targets
-target_ruled shapes id t = record { node = t.node; is = t.is; rule_is = misses_rule shapes t.node.label.kind (slice_get t.node.children 0) t.misses }
+target_ruled shapes id t = record { node = t.node; is = t.is; rule_is = misses_rule shapes t.node.label.kind (operand_of t.node.label.kind t.node.children) t.misses }
 
 -- two rules at one place are one
 one_rule : {shapes : List Shape} {a b : NodeId} {r q : Rule} → Ruled shapes a r → Ruled shapes b q → a.0 ≡ b.0 → r ≡ q

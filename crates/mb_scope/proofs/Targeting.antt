@@ -5,44 +5,44 @@ use Rattle.std.proofs.lemmas.Option.{slice_get_within}
 use Rattle.std.specs.Prelude.{slice_get, None, IsTrue, not}
 use Rattle.mb_base.specs.declared.value.NodeId.{NodeId}
 use Rattle.mb_tree.specs.Roses.{Shape, id_of}
-use Rattle.mb_scope.specs.declared.target.Form.TheVariants.{Simple, Grouped, Invalid}
+use Rattle.mb_scope.specs.declared.target.TargetType.TheVariants.{Simple, Grouped, Invalid}
 use Rattle.mb_scope.specs.declared.target.Use.TheVariants.{Deletes}
-use Rattle.mb_scope.specs.Kinds.{form_of, is_property}
+use Rattle.mb_scope.specs.Kinds.{target_type_of, is_property, group_part}
 use Rattle.mb_scope.specs.Targets.{IsNode, IsTarget, simple, grouped, Misses, MissesFirst, IsBadTarget}
 
 node_same : {shapes : List Shape} {id : NodeId} {a b : Shape} → IsNode shapes id a → slice_get shapes id.0 ≡ Some b → a ≡ b
 node_same n e = let h = n.is in cc
 
-pub target_simple : (shapes : List Shape) (id : NodeId) (node : Shape) → slice_get shapes id.0 ≡ Some node → form_of node.label.kind ≡ Simple → IsTarget shapes id
+pub target_simple : (shapes : List Shape) (id : NodeId) (node : Shape) → slice_get shapes id.0 ≡ Some node → target_type_of node.label.kind ≡ Simple → IsTarget shapes id
 target_simple shapes id node e f = simple (record { is = e }) f
 
-pub target_invalid : (shapes : List Shape) (id : NodeId) (node : Shape) → slice_get shapes id.0 ≡ Some node → form_of node.label.kind ≡ Invalid → IsTarget shapes id → ⊥
+pub target_invalid : (shapes : List Shape) (id : NodeId) (node : Shape) → slice_get shapes id.0 ≡ Some node → target_type_of node.label.kind ≡ Invalid → IsTarget shapes id → ⊥
 target_invalid shapes id node e f (simple n g) =
-    let same = ap (λ (s : Shape). form_of s.label.kind) (node_same n e) in
+    let same = ap (λ (s : Shape). target_type_of s.label.kind) (node_same n e) in
     cc
 target_invalid shapes id node e f (grouped n g p t) =
-    let same = ap (λ (s : Shape). form_of s.label.kind) (node_same n e) in
+    let same = ap (λ (s : Shape). target_type_of s.label.kind) (node_same n e) in
     cc
 
 -- a node in parentheses is a target exactly if its part is
-pub target_up : (shapes : List Shape) (id part : NodeId) (node : Shape) → slice_get shapes id.0 ≡ Some node → form_of node.label.kind ≡ Grouped → slice_get node.children 0 ≡ Some part → IsTarget shapes part → IsTarget shapes id
+pub target_up : (shapes : List Shape) (id part : NodeId) (node : Shape) → slice_get shapes id.0 ≡ Some node → target_type_of node.label.kind ≡ Grouped → group_part node.label.kind node.children ≡ Some part → IsTarget shapes part → IsTarget shapes id
 target_up shapes id part node e f p t = grouped (record { is = e }) f p t
 
-target_part : (shapes : List Shape) (id : NodeId) (node : Shape) → slice_get shapes id.0 ≡ Some node → form_of node.label.kind ≡ Grouped → IsTarget shapes id → (part : NodeId) × (slice_get node.children 0 ≡ Some part) × IsTarget shapes part
+target_part : (shapes : List Shape) (id : NodeId) (node : Shape) → slice_get shapes id.0 ≡ Some node → target_type_of node.label.kind ≡ Grouped → IsTarget shapes id → (part : NodeId) × (group_part node.label.kind node.children ≡ Some part) × IsTarget shapes part
 target_part shapes id node e f (simple n g) =
-    let same = ap (λ (s : Shape). form_of s.label.kind) (node_same n e) in
+    let same = ap (λ (s : Shape). target_type_of s.label.kind) (node_same n e) in
     absurd (let z : ⊥ = cc in z)
 target_part shapes id node e f (grouped {part = part} n g p t) =
-    let same = ap (λ (s : Shape). slice_get s.children 0) (node_same n e) in
+    let same = ap (λ (s : Shape). group_part s.label.kind s.children) (node_same n e) in
     (part, sym same ∙ p, t)
 
-pub target_down : (shapes : List Shape) (id part : NodeId) (node : Shape) → slice_get shapes id.0 ≡ Some node → form_of node.label.kind ≡ Grouped → slice_get node.children 0 ≡ Some part → IsTarget shapes id → IsTarget shapes part
+pub target_down : (shapes : List Shape) (id part : NodeId) (node : Shape) → slice_get shapes id.0 ≡ Some node → target_type_of node.label.kind ≡ Grouped → group_part node.label.kind node.children ≡ Some part → IsTarget shapes id → IsTarget shapes part
 target_down shapes id part node e f p t =
     let w = target_part shapes id node e f t in
     let same : w.0 ≡ part = let q = w.1 in cc in
     subst (IsTarget shapes) same w.2
 
-pub target_empty : (shapes : List Shape) (id : NodeId) (node : Shape) → slice_get shapes id.0 ≡ Some node → form_of node.label.kind ≡ Grouped → slice_get node.children 0 ≡ None → IsTarget shapes id → ⊥
+pub target_empty : (shapes : List Shape) (id : NodeId) (node : Shape) → slice_get shapes id.0 ≡ Some node → target_type_of node.label.kind ≡ Grouped → group_part node.label.kind node.children ≡ None → IsTarget shapes id → ⊥
 target_empty shapes id node e f p t =
     let w = target_part shapes id node e f t in
     let q = w.1 in

@@ -7,7 +7,7 @@ use Rattle.mb_tree.specs.Roses.{Shape}
 use Rattle.mb_scope.specs.declared.binding.Binding.{Binding}
 use Rattle.mb_scope.specs.declared.binding.Declares.{Declares}
 use Rattle.mb_scope.specs.declared.binding.Declares.TheVariants.{Itself, Decls, Nothing}
-use Rattle.mb_scope.specs.Kinds.{declares_of, is_decl, names_catch}
+use Rattle.mb_scope.specs.Kinds.{declares_of, is_decl, handler_of}
 
 -- the binding of a node that has a name
 abbrev pub own : NodeId → Option StrId → Bool → List Binding
@@ -46,7 +46,7 @@ parts_in (Some node) = node.children
 
 -- the block behind a catch's name
 abbrev pub catch_block : Shape → Option NodeId
-catch_block node = if names_catch node.label.kind then slice_get node.children 2 else None
+catch_block node = handler_of node.label.kind node.children
 
 abbrev pub in_block : List Shape → Option NodeId → List Binding
 in_block shapes None = []

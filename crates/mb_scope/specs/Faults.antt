@@ -1,11 +1,9 @@
 -- The static rules.
-use Rattle.std.specs.Prelude.{ℕ, ◌≤◌, List, Option}
-use Rattle.std.specs.Option.{option_map}
+use Rattle.std.specs.Prelude.{ℕ, ◌≤◌, List}
 use Rattle.mb_base.specs.declared.value.NodeId.{NodeId}
 use Rattle.mb_tree.specs.Roses.{Shape}
 use Rattle.mb_scope.specs.declared.fault.NameFault.{NameFault}
 use Rattle.mb_scope.specs.declared.fault.NameFault.TheVariants.{Twice, Stray, BadTarget, NoMemory}
-use Rattle.mb_scope.specs.First.{sooner}
 use Rattle.mb_scope.specs.Bindings.{IsTwice}
 use Rattle.mb_scope.specs.Jumps.{IsStray}
 use Rattle.mb_scope.specs.Targets.{IsBadTarget}
@@ -31,7 +29,3 @@ place_of NoMemory = 0
 pub record IsLeast (shapes : List Shape) (fault : NameFault) : Type 0 where
   pub broken : Breaks shapes fault
   pub least : (other : NameFault) → Breaks shapes other → place_of fault ≤ place_of other
-
--- the first of the nodes that break the three rules
-abbrev pub first_fault_of : Option NodeId → Option NodeId → Option NodeId → Option NameFault
-first_fault_of twice stray target = sooner place_of (sooner place_of (option_map Twice twice) (option_map Stray stray)) (option_map BadTarget target)

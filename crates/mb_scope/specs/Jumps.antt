@@ -14,13 +14,26 @@ pub record IsPart (shapes : List Shape) (part outer : NodeId) (node : Shape) : T
 
 -- a function stands around the node
 pub data InFunction (shapes : List Shape) : NodeId → Type 0 where
-  direct_function : {id outer : NodeId} {node : Shape} → IsPart shapes id outer node → IsTrue (is_function node.label.kind) → InFunction shapes id
-  outer_function : {id outer : NodeId} {node : Shape} → IsPart shapes id outer node → InFunction shapes outer → InFunction shapes id
+  direct_function : {id outer : NodeId} {node : Shape}
+      → IsPart shapes id outer node
+      → IsTrue (is_function node.label.kind)
+      → InFunction shapes id
+  outer_function : {id outer : NodeId} {node : Shape}
+      → IsPart shapes id outer node
+      → InFunction shapes outer
+      → InFunction shapes id
 
 -- a loop stands around the node, and no function between them
 pub data InLoop (shapes : List Shape) : NodeId → Type 0 where
-  direct_loop : {id outer : NodeId} {node : Shape} → IsPart shapes id outer node → IsTrue (is_loop node.label.kind) → InLoop shapes id
-  outer_loop : {id outer : NodeId} {node : Shape} → IsPart shapes id outer node → IsFalse (is_function node.label.kind) → InLoop shapes outer → InLoop shapes id
+  direct_loop : {id outer : NodeId} {node : Shape}
+      → IsPart shapes id outer node
+      → IsTrue (is_loop node.label.kind)
+      → InLoop shapes id
+  outer_loop : {id outer : NodeId} {node : Shape}
+      → IsPart shapes id outer node
+      → IsFalse (is_function node.label.kind)
+      → InLoop shapes outer
+      → InLoop shapes id
 
 abbrev pub Strays : List Shape → NodeId → Jump → Type 0
 Strays shapes id FromFunction = ¬ InFunction shapes id

@@ -1,5 +1,6 @@
 -- What the kinds of nodes are to the static rules.
-use Rattle.std.specs.Prelude.{Bool, true, false}
+use Rattle.std.specs.Prelude.{Bool, true, false, List, [], ◌∷◌, Option, Some, None}
+use Rattle.mb_base.specs.declared.value.NodeId.{NodeId}
 use Rattle.mb_tree.specs.declared.kind.Kind.{Kind}
 use Rattle.mb_tree.specs.declared.kind.Kind.TheVariants as k
 use Rattle.mb_tree.specs.declared.kind.Sign.TheVariants as s
@@ -7,8 +8,8 @@ use Rattle.mb_scope.specs.declared.binding.Declares.{Declares}
 use Rattle.mb_scope.specs.declared.binding.Declares.TheVariants.{Itself, Decls, Nothing}
 use Rattle.mb_scope.specs.declared.jump.Jump.{Jump}
 use Rattle.mb_scope.specs.declared.jump.Jump.TheVariants as j
-use Rattle.mb_scope.specs.declared.target.Form.{Form}
-use Rattle.mb_scope.specs.declared.target.Form.TheVariants.{Simple, Grouped, Invalid}
+use Rattle.mb_scope.specs.declared.target.TargetType.{TargetType}
+use Rattle.mb_scope.specs.declared.target.TargetType.TheVariants.{Simple, Grouped, Invalid}
 use Rattle.mb_scope.specs.declared.target.Use.{Use}
 use Rattle.mb_scope.specs.declared.target.Use.TheVariants.{Assigns, Deletes, Reads}
 
@@ -26,10 +27,11 @@ abbrev pub is_decl : Kind → Bool
 is_decl k.Decl = true
 is_decl _ = false
 
--- a Try whose catch has a name (ECMA-262, 14.15)
-abbrev pub names_catch : Kind → Bool
-names_catch (k.Try _ true _) = true
-names_catch _ = false
+-- the block behind a catch's name (ECMA-262, 14.15)
+abbrev pub handler_of : Kind → List NodeId → Option NodeId
+handler_of (k.Try true true false) (block ∷ caught ∷ handler ∷ []) = Some handler
+handler_of (k.Try true true true) (block ∷ caught ∷ handler ∷ ending ∷ []) = Some handler
+handler_of _ _ = None
 
 -- a function expression, whose name is bound within it alone (ECMA-262, 15.2)
 abbrev pub names_itself : Kind → Bool
@@ -61,12 +63,12 @@ is_loop _ = false
 
 -- targets (ECMA-262, 8.6.4, 13.4.1, 13.5.1.1, 13.15.1)
 
-abbrev pub form_of : Kind → Form
-form_of k.Name = Simple
-form_of k.Member = Simple
-form_of k.Index = Simple
-form_of k.Group = Grouped
-form_of _ = Invalid
+abbrev pub target_type_of : Kind → TargetType
+target_type_of k.Name = Simple
+target_type_of k.Member = Simple
+target_type_of k.Index = Simple
+target_type_of k.Group = Grouped
+target_type_of _ = Invalid
 
 abbrev pub use_of : Kind → Use
 use_of k.Assign = Assigns
@@ -79,3 +81,16 @@ abbrev pub is_property : Kind → Bool
 is_property k.Member = true
 is_property k.Index = true
 is_property _ = false
+
+-- what stands in parentheses
+abbrev pub group_part : Kind → List NodeId → Option NodeId
+group_part k.Group (part ∷ []) = Some part
+group_part _ _ = None
+
+-- what an operator assigns to, or its one operand
+abbrev pub operand_of : Kind → List NodeId → Option NodeId
+operand_of k.Assign (target ∷ value ∷ []) = Some target
+operand_of (k.Compound sign) (target ∷ value ∷ []) = Some target
+operand_of (k.Update plus prefix) (target ∷ []) = Some target
+operand_of (k.Unary sign) (operand ∷ []) = Some operand
+operand_of _ _ = None

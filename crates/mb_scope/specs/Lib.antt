@@ -1,9 +1,7 @@
-pub mod First
 pub mod Kinds
 pub mod Bindings
 pub mod Jumps
-pub mod Around
 pub mod Targets
 pub mod Faults
 pub mod Names
-pub mod Rows
+pub mod machine

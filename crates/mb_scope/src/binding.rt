@@ -2,12 +2,14 @@
 ghost use Rattle.std.specs.Prelude.{◌≡◌, ◌++◌, ◌<◌, OnOk, IfOk, vec_len, Some};
 ghost use Rattle.std.specs.List.{flat_map};
 ghost use Rattle.mb_tree.specs.Roses.{shapes, view};
-ghost use Rattle.mb_tree.specs.Heights.{IsWhole, AreAmong};
-ghost use Rattle.mb_scope.specs.Kinds.{declares_of, is_decl, names_catch};
+ghost use Rattle.mb_tree.specs.Heights.{IsWhole};
+ghost use Rattle.mb_tree.specs.machine.Below.{AreAmong};
+ghost use Rattle.mb_scope.specs.Kinds.{declares_of, is_decl};
+ghost use Rattle.mb_scope.specs.machine.Picked.{named_handler};
 ghost use Rattle.mb_scope.specs.Bindings.{own, decl_binding, bound_by, bindings_of, catch_block as block_of, in_block, together};
 
 use mb_base::{NoMemory, NodeId, StrId};
-use mb_tree::{Kind, Node, Tree};
+use mb_tree::{Form, Kind, Node, Tree};
 use std::alloc::Global;
 
 /// A name that a declaration, a parameter or a function declaration binds. A fixed name can't be assigned.
@@ -47,12 +49,6 @@ fn is_decl(kind: Kind) -> bool
     matches!(kind, Kind::Decl)
 }
 
-fn names_catch(kind: Kind) -> bool
-    ensures { result ≡ names_catch kind }
-{
-    matches!(kind, Kind::Try { named: true, .. })
-}
-
 // Adds the binding of a node that has a name.
 fn add_own(
     bindings: &mut Vec<Binding>,
@@ -76,7 +72,8 @@ fn add_decls(
     bindings: &mut Vec<Binding>,
 ) -> Result<(), NoMemory>
     requires { AreAmong decls.now (vec_len tree.now.nodes) }
-    ensures { OnOk result (bindings.new.items ≡ bindings.old.items ++ flat_map (decl_binding (shapes tree.now) fixed) decls.now) }
+    ensures { OnOk result (
+        bindings.new.items ≡ bindings.old.items ++ flat_map (decl_binding (shapes tree.now) fixed) decls.now) }
 {
     for id in decls {
         let node = &tree.nodes[id.0 as usize];
@@ -117,15 +114,26 @@ pub fn add_bindings(
     Ok(())
 }
 
+fn named_handler(form: Option<Form<'_>>) -> Option<NodeId>
+    ensures { result ≡ named_handler form.entry }
+{
+    match form {
+        Some(
+            Form::Try {
+                caught: Some(_),
+                handler,
+                ..
+            },
+        ) => handler,
+        _ => None,
+    }
+}
+
 // The block behind a catch's name.
 fn catch_block(node: &Node) -> Option<NodeId>
     ensures { result ≡ block_of (view node.now) }
 {
-    if names_catch(node.kind) {
-        node.children.get(2).copied()
-    } else {
-        None
-    }
+    named_handler(node.form())
 }
 
 // Adds what a block binds.

@@ -1,7 +1,8 @@
 // What breaks a rule, and which stands first.
 ghost use Rattle.std.specs.Prelude.{◌≡◌};
-ghost use Rattle.mb_scope.specs.First.{sooner};
-ghost use Rattle.mb_scope.specs.Faults.{place_of, first_fault_of};
+ghost use Rattle.mb_scope.specs.machine.First.{sooner};
+ghost use Rattle.mb_scope.specs.Faults.{place_of};
+ghost use Rattle.mb_scope.specs.machine.FirstFault.{first_fault_of};
 
 use mb_base::{NoMemory, NodeId};
 

@@ -1,11 +1,12 @@
 // `return`, `break` and `continue`, and what stands around them.
 ghost use Rattle.std.specs.Prelude.{◌≡◌, ◌<◌, ◌^◌, IfOk, length, replicate, vec_len};
 ghost use Rattle.mb_tree.specs.Roses.{shapes};
-ghost use Rattle.mb_tree.specs.Heights.{IsWhole, AreAmong};
-ghost use Rattle.mb_scope.specs.First.{IsFirst};
+ghost use Rattle.mb_tree.specs.Heights.{IsWhole};
+ghost use Rattle.mb_tree.specs.machine.Below.{AreAmong};
+ghost use Rattle.mb_scope.specs.machine.First.{IsFirst};
 ghost use Rattle.mb_scope.specs.Kinds.{is_function, is_loop, jump_of};
 ghost use Rattle.mb_scope.specs.Jumps.{IsStray};
-ghost use Rattle.mb_scope.specs.Around.{allows_of, inside_of, outside, either, IsPutAround};
+ghost use Rattle.mb_scope.specs.machine.Around.{allows_of, inside_of, outside, either, IsPutAround};
 
 use mb_base::{NoMemory, NodeId};
 use mb_tree::{Kind, Tree};

@@ -1,7 +1,8 @@
 // The names of all scopes.
 ghost use Rattle.std.specs.Prelude.{◌≡◌, ◌<◌, ◌^◌, ◌++◌, IfOk, OnOk, vec_len};
 ghost use Rattle.mb_tree.specs.Roses.{shapes, view};
-ghost use Rattle.mb_tree.specs.Heights.{IsWhole, AreAmong};
+ghost use Rattle.mb_tree.specs.Heights.{IsWhole};
+ghost use Rattle.mb_tree.specs.machine.Below.{AreAmong};
 ghost use Rattle.mb_scope.specs.Kinds.{names_itself};
 ghost use Rattle.mb_scope.specs.Names.{own_name, scope_names, names_of};
 

@@ -1,17 +1,19 @@
 // What operators change.
 ghost use Rattle.std.specs.Prelude.{◌≡◌, ◌<◌, ◌^◌, ◌↔◌, IsTrue, vec_len};
 ghost use Rattle.mb_tree.specs.Roses.{shapes, view};
-ghost use Rattle.mb_tree.specs.Heights.{IsWhole, AreAmong};
-ghost use Rattle.mb_scope.specs.First.{IsFirst};
-ghost use Rattle.mb_scope.specs.Kinds.{form_of, use_of, is_property};
+ghost use Rattle.mb_tree.specs.Heights.{IsWhole};
+ghost use Rattle.mb_tree.specs.machine.Below.{AreAmong};
+ghost use Rattle.mb_scope.specs.machine.First.{IsFirst};
+ghost use Rattle.mb_scope.specs.Kinds.{target_type_of, use_of, is_property, group_part, operand_of};
+ghost use Rattle.mb_scope.specs.machine.Picked.{inner_of, changed_by};
 ghost use Rattle.mb_scope.specs.Targets.{IsTarget, IsProperty, Misses, MissesFirst, IsBadTarget};
 
 use mb_base::NodeId;
-use mb_tree::{Kind, Node, Sign, Tree};
+use mb_tree::{Form, Kind, Node, Sign, Tree};
 
 /// What an expression is as a target (ECMA-262, 8.6.4, AssignmentTargetType).
 #[derive(Clone, Copy, Debug, PartialEq, Eq)]
-pub enum Form {
+pub enum TargetType {
     /// A name or a property.
     Simple,
     /// What its part is.
@@ -19,7 +21,7 @@ pub enum Form {
     Invalid,
 }
 
-/// What an operator does with its first operand.
+/// What an operator does with its operand.
 #[derive(Clone, Copy, Debug, PartialEq, Eq)]
 pub enum Use {
     Assigns,
@@ -27,14 +29,14 @@ pub enum Use {
     Reads,
 }
 
-impl Form {
-    fn of(kind: Kind) -> Form
-        ensures { result ≡ form_of kind }
+impl TargetType {
+    fn of(kind: Kind) -> TargetType
+        ensures { result ≡ target_type_of kind }
     {
         match kind {
-            Kind::Name | Kind::Member | Kind::Index => Form::Simple,
-            Kind::Group => Form::Grouped,
-            _ => Form::Invalid,
+            Kind::Name | Kind::Member | Kind::Index => TargetType::Simple,
+            Kind::Group => TargetType::Grouped,
+            _ => TargetType::Invalid,
         }
     }
 }
@@ -57,6 +59,43 @@ fn is_property(kind: Kind) -> bool
     matches!(kind, Kind::Member | Kind::Index)
 }
 
+fn inner_of(form: Option<Form<'_>>) -> Option<NodeId>
+    ensures { result ≡ inner_of form.entry }
+{
+    match form {
+        Some(Form::Group { inner }) => Some(inner),
+        _ => None,
+    }
+}
+
+// What stands in parentheses.
+fn part_in_group(node: &Node) -> Option<NodeId>
+    ensures { result ≡ group_part node.now.kind node.now.children.items }
+{
+    inner_of(node.form())
+}
+
+fn changed_by(form: Option<Form<'_>>) -> Option<NodeId>
+    ensures { result ≡ changed_by form.entry }
+{
+    match form {
+        Some(
+            Form::Assign { target, .. }
+            | Form::Compound { target, .. }
+            | Form::Update { target, .. },
+        ) => Some(target),
+        Some(Form::Unary { operand, .. }) => Some(operand),
+        _ => None,
+    }
+}
+
+// What an operator assigns to, or its one operand.
+fn operand(node: &Node) -> Option<NodeId>
+    ensures { result ≡ operand_of node.now.kind node.now.children.items }
+{
+    changed_by(node.form())
+}
+
 // Whether a node is a name or a property, perhaps in parentheses.
 fn can_be_assigned(tree: &Tree, target: NodeId) -> bool
     requires whole { IsWhole (shapes tree.now) }
@@ -66,11 +105,11 @@ fn can_be_assigned(tree: &Tree, target: NodeId) -> bool
     let mut id = target;
     loop {
         let node = &tree.nodes[id.0 as usize];
-        match Form::of(node.kind) {
-            Form::Simple => return true,
-            Form::Invalid => return false,
-            Form::Grouped => match node.children.first() {
-                Some(part) => id = *part,
+        match TargetType::of(node.kind) {
+            TargetType::Simple => return true,
+            TargetType::Invalid => return false,
+            TargetType::Grouped => match part_in_group(node) {
+                Some(part) => id = part,
                 None => return false,
             },
         }
@@ -90,14 +129,14 @@ fn misses(tree: &Tree, usage: Use, operand: NodeId) -> bool
     }
 }
 
-// Whether a node is an operator whose first operand isn't what it wants.
+// Whether a node is an operator whose operand isn't what it wants.
 fn misses_first(tree: &Tree, node: &Node) -> bool
     requires whole { IsWhole (shapes tree.now) }
     requires there { AreAmong node.now.children.items (vec_len tree.now.nodes) }
     ensures { IsTrue result ↔ MissesFirst (shapes tree.now) (view node.now) }
 {
-    match node.children.first() {
-        Some(operand) => misses(tree, Use::of(node.kind), *operand),
+    match operand(node) {
+        Some(operand) => misses(tree, Use::of(node.kind), operand),
         None => false,
     }
 }

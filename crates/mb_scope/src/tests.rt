@@ -1,7 +1,7 @@
 ghost use Rattle.std.specs.Prelude.{◌≡◌, ◌<◌, ◌^◌, ◌≤◌, IfOk, OnOk, vec_len};
 ghost use Rattle.mb_tree.specs.Roses.{shapes};
 ghost use Rattle.mb_tree.specs.Heights.{IsWhole};
-ghost use Rattle.mb_scope.specs.Rows.{IsBuilt};
+ghost use Rattle.mb_scope.specs.machine.Rows.{IsBuilt};
 
 use super::*;
 use NameFault::{BadTarget, Stray, Twice};

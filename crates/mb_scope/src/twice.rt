@@ -3,7 +3,7 @@ ghost use Rattle.std.specs.Prelude.{◌≡◌, IfOk, OnOk, true, not, nat_eq};
 ghost use Rattle.std.specs.HashSet.{contains, Updates};
 ghost use Rattle.mb_tree.specs.Roses.{shapes};
 ghost use Rattle.mb_tree.specs.Heights.{IsWhole};
-ghost use Rattle.mb_scope.specs.First.{IsFirst};
+ghost use Rattle.mb_scope.specs.machine.First.{IsFirst};
 ghost use Rattle.mb_scope.specs.Bindings.{Repeats, IsTwice};
 
 use crate::binding::{Binding, bound_together};

@@ -11,7 +11,8 @@ use borrow.Author.Tests.{ltb-true, ltb-false}
 use Rattle.std.specs.Int.{IsInRange}
 use Rattle.std.specs.Str.{bytes_eq as same_text}
 use Rattle.std.specs.Str.Parse.{digits_value}
-use Rattle.mb_text.specs.Index.{index_of, no_index, AreDigits}
+use Rattle.mb_text.specs.Index.{index_of, no_index}
+use Rattle.mb_text.specs.machine.Digits.{AreDigits}
 
 own : IsNumeralModel AreDigits (digits_value 10)
 own = numerals_by_value AreDigits tells_by_index

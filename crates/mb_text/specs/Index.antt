@@ -1,7 +1,6 @@
 -- The array index that a text spells (ECMA-262, 6.1.7).
-use Rattle.std.specs.Prelude.{ℕ, ◌-◌, ◌^◌, ◌<◌, ◌&&◌, nat_lt, List, length, slice_index, if◌then◌else◌, decimal}
+use Rattle.std.specs.Prelude.{ℕ, ◌-◌, ◌^◌, ◌&&◌, nat_lt, List, if◌then◌else◌, decimal}
 use Rattle.std.specs.Str.{bytes_eq as same_text}
-use Rattle.std.specs.Int.{IsInRange}
 use Rattle.std.specs.Str.Parse.{digits_value}
 
 -- stands for no array index
@@ -11,7 +10,3 @@ no_index = 2 ^ 32 - 1
 -- the number below 2^32 - 1 whose decimal text this is, if there is one
 unfoldable pub index_of : List ℕ → ℕ
 index_of text = let n = digits_value 10 text in if nat_lt n no_index && same_text (decimal n) text then n else no_index
-
--- each unit is a digit
-abbrev pub AreDigits : List ℕ → Type 0
-AreDigits text = (k : ℕ) → k < length text → IsInRange 48 57 (slice_index text k)

@@ -1,3 +1,4 @@
 pub mod Index
+pub mod machine
 pub mod Spelling
 pub mod Texts

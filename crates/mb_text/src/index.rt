@@ -1,7 +1,8 @@
 // Array indices in texts.
 ghost use Rattle.std.specs.Prelude.{◌≡◌, ◌<◌, ◌≤◌, ℕ, List, length, decimal, MatchOption};
 ghost use Rattle.std.specs.Str.Parse.{digits_value};
-ghost use Rattle.mb_text.specs.Index.{index_of, no_index, AreDigits};
+ghost use Rattle.mb_text.specs.Index.{index_of, no_index};
+ghost use Rattle.mb_text.specs.machine.Digits.{AreDigits};
 
 // The most digits of an array index.
 const MOST_DIGITS: usize = 10;

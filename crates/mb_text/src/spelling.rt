@@ -8,9 +8,10 @@ ghost use Rattle.mb_text.specs.Spelling.{is_plain, spelled, spelled_unit, unicod
 use mb_base::NoMemory;
 use std::alloc::AllocError;
 
-/// Appends the spelling of a text: its characters in UTF-8, with `\` as `\\`, a line feed as `\n`, a carriage return
-/// as `\r`, other characters below U+0020, U+007F and surrogates without a partner as `\u` and four lower-case
-/// hexadecimal digits. In quotes `"` is `\"` too. The time is linear in the units.
+/// Appends the spelling of a text, in UTF-8. Most characters stand for themselves. `\` is written `\\`, a line feed
+/// `\n` and a carriage return `\r`; the other control characters of ASCII, and a unit that is half of no surrogate
+/// pair, are written `\u` with the unit's value in base 16, four digits long and in lower case. A text that will stand
+/// between quotes (`quoted`) has `\"` for `"`. The time is linear in the units.
 pub fn spell(units: &[u16], quoted: bool, out: &mut Vec<u8>) -> Result<(), NoMemory>
     ensures spelled { OnOk result (out.new.items ≡ out.old.items ++ spelled quoted units.now) }
     ensures kept { OnErr result (out.new.items ≡ out.old.items) }

@@ -1,5 +1,5 @@
 use super::*;
-use mb_base::StrId;
+use mb_base::{Key, StrId};
 use std::alloc::{AllocError, Global};
 use std::test::Fail;
 
@@ -19,7 +19,10 @@ fn a_text_has_one_id(rt: HostRuntime) -> Result<(), Fail> {
     ];
     for (units, place) in rows {
         assert_eq!(rt; texts.intern(units), Ok(StrId(place)));
+        assert_eq!(rt; texts.find(units), Some(StrId(place)));
     }
+    assert_eq!(rt; texts.find(&[0x62]), None);
+    assert_eq!(rt; texts.len(), 4);
     Ok(())
 }
 
@@ -88,12 +91,15 @@ fn a_join_is_one_text_behind_the_other(rt: HostRuntime) -> Result<(), Fail> {
     Ok(())
 }
 
-// The index in the key of a text.
-fn key_index(alloc: Global, text: &str) -> Result<u32, Fail> {
+// The index in the key of a text, or `None` where the key has another text.
+fn key_index(alloc: Global, text: &str) -> Result<Option<u32>, Fail> {
     let mut texts = Texts::new(alloc);
     let units = units_of(alloc, text)?;
     let id = texts.intern(&units)?;
-    Ok(texts.key(id).index)
+    match texts.key(id) {
+        Key::Text { text, index } if text == id => Ok(Some(index)),
+        _ => Ok(None),
+    }
 }
 
 #[test]
@@ -114,7 +120,7 @@ fn a_key_has_the_index_that_its_text_spells(rt: HostRuntime) -> Result<(), Fail>
         ("1.0", u32::MAX),
     ];
     for (text, index) in rows {
-        assert_eq!(rt; key_index(rt.alloc(), text)?, index, "{text}");
+        assert_eq!(rt; key_index(rt.alloc(), text)?, Some(index), "{text}");
     }
     Ok(())
 }

@@ -41,7 +41,11 @@ mark_text Equal = codes "="
 
 -- each mark once, the longest first
 abbrev pub marks : List Mark
-marks = TripleEqual ∷ NotDoubleEqual ∷ Arrow ∷ LessEqual ∷ GreaterEqual ∷ AndAnd ∷ OrOr ∷ PlusPlus ∷ MinusMinus ∷ PlusEqual ∷ MinusEqual ∷ TimesEqual ∷ OpenBrace ∷ CloseBrace ∷ OpenParen ∷ CloseParen ∷ OpenBracket ∷ CloseBracket ∷ Dot ∷ Semicolon ∷ Comma ∷ Less ∷ Greater ∷ Plus ∷ Minus ∷ Times ∷ Slash ∷ Percent ∷ Not ∷ Question ∷ Colon ∷ Equal ∷ []
+marks =
+    TripleEqual ∷ NotDoubleEqual ∷ Arrow ∷ LessEqual ∷ GreaterEqual ∷ AndAnd ∷ OrOr ∷ PlusPlus ∷ MinusMinus
+    ∷ PlusEqual ∷ MinusEqual ∷ TimesEqual ∷ OpenBrace ∷ CloseBrace ∷ OpenParen ∷ CloseParen ∷ OpenBracket
+    ∷ CloseBracket ∷ Dot ∷ Semicolon ∷ Comma ∷ Less ∷ Greater ∷ Plus ∷ Minus ∷ Times ∷ Slash ∷ Percent ∷ Not
+    ∷ Question ∷ Colon ∷ Equal ∷ []
 
 -- the longest mark with which these characters begin
 abbrev pub mark_at : List ℕ → Option Mark

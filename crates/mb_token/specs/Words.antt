@@ -60,7 +60,11 @@ word_text Yield = codes "yield"
 
 -- each reserved word once
 abbrev pub words : List Word
-words = Arguments ∷ Await ∷ Break ∷ Case ∷ Catch ∷ Class ∷ Const ∷ Continue ∷ Debugger ∷ Default ∷ Delete ∷ Do ∷ Else ∷ Enum ∷ Eval ∷ Export ∷ Extends ∷ False ∷ Finally ∷ For ∷ Function ∷ If ∷ Implements ∷ Import ∷ In ∷ Instanceof ∷ Interface ∷ Let ∷ New ∷ Null ∷ Package ∷ Private ∷ Protected ∷ Public ∷ Return ∷ Static ∷ Super ∷ Switch ∷ This ∷ Throw ∷ True ∷ Try ∷ Typeof ∷ Undefined ∷ Var ∷ Void ∷ While ∷ With ∷ Yield ∷ []
+words =
+    Arguments ∷ Await ∷ Break ∷ Case ∷ Catch ∷ Class ∷ Const ∷ Continue ∷ Debugger ∷ Default ∷ Delete ∷ Do ∷ Else
+    ∷ Enum ∷ Eval ∷ Export ∷ Extends ∷ False ∷ Finally ∷ For ∷ Function ∷ If ∷ Implements ∷ Import ∷ In
+    ∷ Instanceof ∷ Interface ∷ Let ∷ New ∷ Null ∷ Package ∷ Private ∷ Protected ∷ Public ∷ Return ∷ Static ∷ Super
+    ∷ Switch ∷ This ∷ Throw ∷ True ∷ Try ∷ Typeof ∷ Undefined ∷ Var ∷ Void ∷ While ∷ With ∷ Yield ∷ []
 
 -- the word that these units are
 abbrev pub word_of : List ℕ → Option Word
@@ -73,4 +77,6 @@ soft_text Set = codes "set"
 
 -- the soft name that these units are
 abbrev pub soft_of : List ℕ → Option Soft
-soft_of units = if bytes_eq (codes "get") units then Some Get else (if bytes_eq (codes "set") units then Some Set else None)
+soft_of units =
+    if bytes_eq (codes "get") units then Some Get
+    else (if bytes_eq (codes "set") units then Some Set else None)

@@ -9,7 +9,8 @@ use Rattle.std.proofs.Math.ListN.{drop_of_length-le}
 use Rattle.mb_base.specs.declared.value.NodeId.{NodeId}
 use Rattle.mb_tree.specs.declared.tree.Node.{Node}
 use Rattle.mb_tree.specs.Roses.{view, views, Rose, Roses, node, none, more, Shape, shape, id_of, write, write_all, roots, root}
-use Rattle.mb_tree.specs.Heights.{height_of, most_of, IsWhole, empty, whole, AreAmong, most_at}
+use Rattle.mb_tree.specs.Heights.{height_of, most_of, IsWhole, empty, whole}
+use Rattle.mb_tree.specs.machine.Below.{AreAmong, most_at}
 use Rattle.mb_tree.proofs.Written.{root_write, write_all_longer, write_all_keeps}
 
 -- the heights, once those of these nodes follow

@@ -1,7 +1,7 @@
 -- What is written, and where.
 use Rattle.std.proofs.Common.{◌≡◌, ℕ, zero, suc, ◌+◌, ◌≤◌, List, [], ◌∷◌, ◌++◌, length, refl, sym, ap, ◌∙◌, arith, append_assoc, append-nil, length-append}
-use Rattle.mb_tree.specs.Roses.{Rose, Roses, node, none, more, Shape, shape, id_of, write, write_all, roots, root}
-use Rattle.mb_tree.specs.Operands.{written, places, size, join, pushed, Got, gather}
+use Rattle.mb_tree.specs.Roses.{Rose, Roses, node, none, more, Shape, shape, id_of, write, write_all, roots, root, size, join}
+use Rattle.mb_tree.specs.machine.Operands.{written, places, pushed, Got, gather}
 
 -- lengths
 
@@ -93,3 +93,8 @@ pub pushed_places : (base : List Shape) (parts : Roses) (rs : List Rose) → pla
 pushed_places base none rs = sym (append-nil (places base rs))
 pushed_places base (more p parts) rs =
     pushed_places base parts (p ∷ rs) ∙ append_assoc (places base rs) (id_of (root (written base rs) p) ∷ []) (roots (write (written base rs) p) parts)
+
+-- each operand has a node of its own
+pub operands_fit : (base : List Shape) (rs : List Rose) → length base + length rs ≤ length (written base rs)
+operands_fit base [] = omega arith
+operands_fit base (q ∷ rs) = omega (arith, operands_fit base rs, root_write (written base rs) q, root_least (written base rs) q)

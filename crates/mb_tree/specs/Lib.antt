@@ -1,3 +1,5 @@
 pub mod Roses
-pub mod Operands
 pub mod Heights
+pub mod Form
+pub mod Seen
+pub mod machine

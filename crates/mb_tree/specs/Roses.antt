@@ -1,5 +1,5 @@
 -- Trees, and how they are laid flat.
-use Rattle.std.specs.Prelude.{ℕ, ℤ, pos, List, [], ◌∷◌, ◌++◌, Some, None, length, map}
+use Rattle.std.specs.Prelude.{◌≡◌, ℕ, suc, ℤ, pos, List, [], ◌∷◌, ◌++◌, Some, None, length, map}
 use Rattle.mb_base.specs.declared.value.NodeId.{NodeId}
 use Rattle.mb_base.specs.declared.value.StrId.{StrId}
 use Rattle.mb_tree.specs.declared.kind.Kind.{Kind}
@@ -28,6 +28,16 @@ mutual
   pub data Roses : Type 0 where
     none : Roses
     more : Rose → Roses → Roses
+
+-- how many trees these are
+abbrev pub size : Roses → ℕ
+size none = 0
+size (more part parts) = suc (size parts)
+
+-- these trees, and then those
+abbrev pub join : Roses → Roses → Roses
+join none parts = parts
+join (more first rest) parts = more first (join rest parts)
 
 -- a node as it lies among others
 pub record Shape : Type 0 where
@@ -70,3 +80,8 @@ abbrev mutual
   -- the place of a tree's own node
   pub root : List Shape → Rose → ℕ
   root out (node label parts) = length (write_all out parts)
+
+-- the old nodes stand first among the new ones, unchanged
+pub record Extends (old new : List Shape) : Type 0 where
+  pub added : List Shape
+  pub is : new ≡ old ++ added

@@ -86,3 +86,25 @@ fn a_node_takes_the_last_trees(rt: HostRuntime) -> Result<(), Fail> {
     assert_eq!(rt; tree.nodes[4].whole, 7);
     Ok(())
 }
+
+// The nodes of `this, this()` by their forms.
+#[test]
+fn nodes_have_forms(rt: HostRuntime) -> Result<(), Fail> {
+    let tree = a_call_behind_a_comma(rt.alloc())?;
+    assert_eq!(rt; tree.nodes.len(), 4);
+    assert!(rt; matches!(tree.nodes[0].form(), Some(Form::This)));
+    match tree.nodes[2].form() {
+        Some(Form::Call { callee, arguments }) => {
+            assert_eq!(rt; callee, NodeId(1));
+            assert!(rt; arguments.is_empty());
+        }
+        _ => assert!(rt; false),
+    }
+    match tree.nodes[3].form() {
+        Some(Form::Seq { values }) => {
+            assert_eq!(rt; values, [NodeId(0), NodeId(2)].as_slice());
+        }
+        _ => assert!(rt; false),
+    }
+    Ok(())
+}

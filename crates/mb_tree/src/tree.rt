@@ -1,7 +1,8 @@
 // Trees.
 ghost use Rattle.std.specs.Prelude.{◌≡◌, ◌+◌, ◌<◌, ◌≤◌, ◌^◌, List, [], ◌∷◌, ◌++◌, length, EachIndex, IfOk, OnErr, OnOk, vec_len};
-ghost use Rattle.mb_tree.specs.Roses.{Rose, write, shapes, shape, id_of};
-ghost use Rattle.mb_tree.specs.Heights.{height_of, most_at, IsWhole, AreAmong};
+ghost use Rattle.mb_tree.specs.Roses.{Rose, write, shapes, shape, id_of, bare, named};
+ghost use Rattle.mb_tree.specs.Heights.{height_of, IsWhole};
+ghost use Rattle.mb_tree.specs.machine.Below.{most_at, AreAmong};
 
 use crate::kind::Kind;
 use mb_base::{NoMemory, NodeId, StrId};
@@ -18,9 +19,33 @@ pub struct Label {
     pub whole: i64,
 }
 
-/// A node. `name` is the text of a Name, Text, Member, Decl, Param, FunctionDecl or named Function, and of the key of a
-/// Value, Method, Getter or Setter where that is a word or a text. `whole` is the number of a Number, and of such a key
-/// where that is a number. Elsewhere they are `None` and 0.
+impl Label {
+    /// A node without a name and a number.
+    pub fn bare(kind: Kind) -> Label
+        ensures { result ≡ bare kind }
+    {
+        Label {
+            kind,
+            name: None,
+            whole: 0,
+        }
+    }
+
+    /// A node with a name.
+    pub fn named(kind: Kind, name: StrId) -> Label
+        ensures { result ≡ named kind name }
+    {
+        Label {
+            kind,
+            name: Some(name),
+            whole: 0,
+        }
+    }
+}
+
+/// A node. What the source names keeps that text in `name`: names, texts, properties behind a dot, what is declared or
+/// is a parameter, functions with a name, and a property's key that is a word or a text. A number, also one that is a
+/// key, is in `whole`. Every other node has `None` and 0 there.
 #[derive(Debug, Drop)]
 pub struct Node {
     pub kind: Kind,
@@ -47,11 +72,12 @@ impl Tree {
         count: usize,
     ) -> Result<(), NoMemory>
         requires { count ≤ vec_len operands.old }
-        ensures few { OnOk result (vec_len self.new.nodes ≤ MOST_NODES) }
-        ensures built { (front kids : List NodeId) → operands.old.items ≡ front ++ kids → length kids ≡ count → OnOk result (
-            (operands.new.items ≡ front ++ id_of (length (shapes self.old)) ∷ [])
+        ensures few { OnOk result (vec_len self.new.nodes ≤ 2 ^ 31) }
+        ensures built { (front kids : List NodeId) → operands.old.items ≡ front ++ kids → length kids ≡ count →
+            OnOk result ((operands.new.items ≡ front ++ id_of (length (shapes self.old)) ∷ [])
             × (shapes self.new ≡ shapes self.old ++ shape label kids ∷ [])) }
-        ensures kept { OnErr result ((operands.new.items ≡ operands.old.items) × (shapes self.new ≡ shapes self.old)) }
+        ensures kept { OnErr result (
+            (operands.new.items ≡ operands.old.items) × (shapes self.new ≡ shapes self.old)) }
     {
         if self.nodes.len() >= MOST_NODES {
             return Err(NoMemory);
@@ -71,7 +97,7 @@ impl Tree {
         Ok(())
     }
 
-    /// The number of nodes on the longest way down from the root, 0 where there is no node.
+    /// How many nodes the longest way from the root down to a leaf has; 0 of an empty tree.
     pub fn height(&self, alloc: Global) -> Result<u32, NoMemory>
         requires whole { IsWhole (shapes self.now) }
         requires few { vec_len self.now.nodes < 2 ^ 32 }

@@ -1,6 +1,6 @@
 use Rattle.std.proofs.Common.{◌≡◌, ◌∙◌, ap, sym, Some, take, drop, length, append_assoc, arith, ◌++◌, ◌+◌, length-append}
 use Rattle.std.specs.List.{concat}
-use Rattle.mb_cli.specs.Lines.{contents_of}
+use Rattle.mb_cli.specs.machine.Lines.{contents_of}
 use Rattle.mb_cli.proofs.Texts.{front, front-more, front-rest, front-fits, front-split}
 use Rattle.mb_cli.proofs.puts.put_lines.Goals as goal
 

@@ -1,6 +1,6 @@
 use Rattle.std.proofs.Common.{◌≡◌, ◌≤◌, ◌-◌, ◌++◌, ℕ, List, Some, length}
 use Rattle.std.specs.List.{concat}
-use Rattle.mb_cli.specs.Lines.{contents_of}
+use Rattle.mb_cli.specs.machine.Lines.{contents_of}
 use Rattle.mb_cli.proofs.Texts.{front}
 use Rattle.mb_cli.proofs.puts.put_lines.Given as goal
 

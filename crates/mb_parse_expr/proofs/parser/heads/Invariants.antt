@@ -1,5 +1,5 @@
 use Rattle.std.proofs.Common.{length, ◌-◌, ◌≡◌, drop}
-use Rattle.mb_parse_expr.specs.Machine as machine
+use Rattle.mb_parse_expr.specs.machine.Machine as machine
 use Rattle.mb_parse_expr.proofs.parser.heads.Given as goal
 
 abbrev pub invariant-loop-at : goal.invariant-loop-at

@@ -1,13 +1,13 @@
 use Rattle.std.proofs.Common.{◌+◌, ◌≤◌, [], length, refl, ap, subst, arith}
 use Rattle.mb_tree.specs.Roses.{shapes, views}
 use Rattle.mb_parse_expr.specs.declared.parser.Paused.{Paused}
-use Rattle.mb_parse_expr.specs.Answers as expr
+use Rattle.mb_parse_expr.specs.Pauses as expr
 use Rattle.mb_parse_stmt.specs.declared.machine.Stop.TheVariants as st
 use Rattle.mb_parse_stmt.specs.declared.parser.Outer.{Outer}
 use Rattle.mb_parse_stmt.specs.declared.parser.Next.{Next}
-use Rattle.mb_parse_stmt.specs.Answers.{AreAll, taken}
-use Rattle.mb_parse_stmt.specs.Script.{script_of}
-use Rattle.mb_parse_stmt.specs.Levels.{InExpression, Nexts, IsFrom}
+use Rattle.mb_parse_stmt.specs.machine.Stops.{AreAll, taken}
+use Rattle.mb_grammar.specs.Script.{script_of}
+use Rattle.mb_parse_stmt.specs.machine.Levels.{InExpression, Nexts, IsFrom}
 use Rattle.mb_parse_stmt.proofs.Levels.{level_first, level_begun, level_read, script_stands, script_given, expression_dead, waiting_within}
 use Rattle.mb_parse_stmt.proofs.parser.parse.Goals as goal
 
@@ -34,13 +34,13 @@ returns-in-Script-clause-deep c e =
 pub returns-in-Wrong-clause-shape : goal.returns-in-Wrong-clause-shape
 returns-in-Wrong-clause-shape c e =
     let x : InExpression c.args.tokens.now c.next_parser.new.outers.items c.next_parser.new.statements c.in-Parser.ready (shapes c.next_parser.new.tree) = subst (λ (x : Next). Nexts c.args.tokens.now c.next_parser.new.outers.items c.next_parser.new.statements (shapes c.next_parser.new.tree) x) c.in-Parser.is c.in_ok-next_parser.ensures.nexts in
-    expression_dead x (subst (λ (y : Paused). expr.Answers c.args.tokens.now x.level c.next_parser.new.statements.at x.out x.ds c.run.new.self (shapes c.run.new.tree) y) c.in-Wrong.is (c.in_ok-run-in-Parser.ensures.answers x.level c.next_parser.new.statements.at x.out x.ds x.reading))
+    expression_dead x (subst (λ (y : Paused). expr.Tells c.args.tokens.now x.level c.next_parser.new.statements.at x.out x.ds c.run.new.self (shapes c.run.new.tree) y) c.in-Wrong.is (c.in_ok-run-in-Parser.ensures.answers x.level c.next_parser.new.statements.at x.out x.ds x.reading))
 
 pub levels-smaller-in-Body : goal.levels-smaller-in-Body
 levels-smaller-in-Body c =
     let x : InExpression c.args.tokens.now c.next_parser.new.outers.items c.next_parser.new.statements c.in-Parser.ready (shapes c.next_parser.new.tree) = subst (λ (x : Next). Nexts c.args.tokens.now c.next_parser.new.outers.items c.next_parser.new.statements (shapes c.next_parser.new.tree) x) c.in-Parser.is c.in_ok-next_parser.ensures.nexts in
-    let a = subst (λ (y : Paused). expr.Answers c.args.tokens.now x.level c.next_parser.new.statements.at x.out x.ds c.run.new.self (shapes c.run.new.tree) y) c.in-Body.is (c.in_ok-run-in-Parser.ensures.answers x.level c.next_parser.new.statements.at x.out x.ds x.reading) in
-    let f = subst (λ (y : Paused). expr.Moves (expr.place_of c.in-Parser.ready) (expr.place_of c.run.new.self) y) c.in-Body.is c.in_ok-run-in-Parser.ensures.forward in
+    let a = subst (λ (y : Paused). expr.Tells c.args.tokens.now x.level c.next_parser.new.statements.at x.out x.ds c.run.new.self (shapes c.run.new.tree) y) c.in-Body.is (c.in_ok-run-in-Parser.ensures.answers x.level c.next_parser.new.statements.at x.out x.ds x.reading) in
+    let f = subst (λ (y : Paused). expr.Moves (expr.next_place c.in-Parser.ready) (expr.next_place c.run.new.self) y) c.in-Body.is c.in_ok-run-in-Parser.ensures.forward in
     let g = subst (λ (y : Next). IsFrom (c.levels.statements.at + taken c.levels.statements.mode) (length c.args.tokens.now) y) c.in-Parser.is c.in_ok-next_parser.ensures.from in
     let w = waiting_within c.run.new.self a.0 in
     let q = c.in_ok-statements-in-Body.ensures.place in
@@ -49,7 +49,7 @@ levels-smaller-in-Body c =
 pub levels-preserved-in-Body : goal.levels-preserved-in-Body
 levels-preserved-in-Body c =
     let x : InExpression c.args.tokens.now c.next_parser.new.outers.items c.next_parser.new.statements c.in-Parser.ready (shapes c.next_parser.new.tree) = subst (λ (x : Next). Nexts c.args.tokens.now c.next_parser.new.outers.items c.next_parser.new.statements (shapes c.next_parser.new.tree) x) c.in-Parser.is c.in_ok-next_parser.ensures.nexts in
-    let a = subst (λ (y : Paused). expr.Answers c.args.tokens.now x.level c.next_parser.new.statements.at x.out x.ds c.run.new.self (shapes c.run.new.tree) y) c.in-Body.is (c.in_ok-run-in-Parser.ensures.answers x.level c.next_parser.new.statements.at x.out x.ds x.reading) in
+    let a = subst (λ (y : Paused). expr.Tells c.args.tokens.now x.level c.next_parser.new.statements.at x.out x.ds c.run.new.self (shapes c.run.new.tree) y) c.in-Body.is (c.in_ok-run-in-Parser.ensures.answers x.level c.next_parser.new.statements.at x.out x.ds x.reading) in
     let n = subst (λ (y : Paused). expr.NeedsItsBody c.args.tokens.now x.level c.next_parser.new.statements.at y) c.in-Body.is (c.in_ok-run-in-Parser.ensures.hopeless x.level c.next_parser.new.statements.at x.out x.ds x.reading) in
     let w = waiting_within c.run.new.self a.0 in
     let o : Outer = record { statements = c.next_parser.new.statements; parser = c.run.new.self } in
@@ -58,5 +58,5 @@ levels-preserved-in-Body c =
 pub levels-preserved : goal.levels-preserved
 levels-preserved c =
     let x : InExpression c.args.tokens.now c.next_parser.new.outers.items c.next_parser.new.statements c.in-Parser.ready (shapes c.next_parser.new.tree) = subst (λ (x : Next). Nexts c.args.tokens.now c.next_parser.new.outers.items c.next_parser.new.statements (shapes c.next_parser.new.tree) x) c.in-Parser.is c.in_ok-next_parser.ensures.nexts in
-    let a = subst (λ (y : Paused). expr.Answers c.args.tokens.now x.level c.next_parser.new.statements.at x.out x.ds c.run.new.self (shapes c.run.new.tree) y) c.in-Ended.is (c.in_ok-run-in-Parser.ensures.answers x.level c.next_parser.new.statements.at x.out x.ds x.reading) in
+    let a = subst (λ (y : Paused). expr.Tells c.args.tokens.now x.level c.next_parser.new.statements.at x.out x.ds c.run.new.self (shapes c.run.new.tree) y) c.in-Ended.is (c.in_ok-run-in-Parser.ensures.answers x.level c.next_parser.new.statements.at x.out x.ds x.reading) in
     level_read x c.read.new.self c.read.ensures.kept (c.in_ok-read-in-Ended.ensures.reading c.args.tokens.now x.start x.base x.out (shapes c.run.new.tree) x.level x.ds x.wanting a)

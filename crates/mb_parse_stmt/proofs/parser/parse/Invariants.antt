@@ -1,7 +1,7 @@
 use Rattle.std.proofs.Common.{◌+◌, ◌-◌, ◌*◌, length}
 use Rattle.mb_tree.specs.Roses.{shapes}
-use Rattle.mb_parse_stmt.specs.Answers.{taken}
-use Rattle.mb_parse_stmt.specs.Levels.{AtLevel}
+use Rattle.mb_parse_stmt.specs.machine.Stops.{taken}
+use Rattle.mb_parse_stmt.specs.machine.Levels.{AtLevel}
 use Rattle.mb_parse_stmt.proofs.parser.parse.Given as goal
 
 abbrev pub invariant-levels : goal.invariant-levels

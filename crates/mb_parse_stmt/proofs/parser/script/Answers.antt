@@ -1,6 +1,6 @@
 use Rattle.std.proofs.Common.{◌≡◌, ◌∙◌, [], length, refl, sym, arith}
 use Rattle.mb_tree.specs.Heights.{whole}
-use Rattle.mb_parse_stmt.specs.Script.{script_of}
+use Rattle.mb_grammar.specs.Script.{script_of}
 use Rattle.mb_parse_stmt.proofs.Levels.{script_written}
 use Rattle.mb_parse_stmt.proofs.parser.script.Goals as goal
 

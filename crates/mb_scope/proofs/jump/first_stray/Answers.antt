@@ -6,8 +6,8 @@ use Rattle.mb_base.specs.declared.value.NodeId.{NodeId}
 use Rattle.mb_tree.specs.Roses.{shapes, view}
 use Rattle.mb_tree.proofs.Heights.{parts_first}
 use Rattle.mb_scope.specs.declared.jump.Around.{Around}
-use Rattle.mb_scope.specs.First.{IsFirst}
-use Rattle.mb_scope.specs.Around.{outside, inside_of, IsPutAround}
+use Rattle.mb_scope.specs.machine.First.{IsFirst}
+use Rattle.mb_scope.specs.machine.Around.{outside, inside_of, IsPutAround}
 use Rattle.mb_scope.specs.Kinds.{is_function, is_loop}
 use Rattle.mb_scope.proofs.Adding.{there, among_read, shapes_long}
 use Rattle.mb_scope.proofs.Knowing.{AllKnown, all_known_none, exact, all_known_more, StrayFrom, stray_none, stray_here, stray_later, stray_all, written_back, outside_all}

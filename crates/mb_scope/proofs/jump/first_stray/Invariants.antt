@@ -1,6 +1,6 @@
 use Rattle.std.proofs.Common.{◌≡◌, vec_len}
 use Rattle.mb_tree.specs.Roses.{shapes}
-use Rattle.mb_scope.specs.First.{IsFirst}
+use Rattle.mb_scope.specs.machine.First.{IsFirst}
 use Rattle.mb_scope.proofs.Knowing.{AllKnown, StrayFrom}
 use Rattle.mb_scope.proofs.jump.first_stray.Given as goal
 

@@ -1,5 +1,5 @@
 use Rattle.std.proofs.Common.{◌≡◌, replicate}
-use Rattle.mb_scope.specs.Around.{outside}
+use Rattle.mb_scope.specs.machine.Around.{outside}
 use Rattle.mb_scope.proofs.jump.nothing_around.Given as goal
 
 abbrev pub invariant-loop : goal.invariant-loop

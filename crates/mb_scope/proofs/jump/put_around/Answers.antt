@@ -2,7 +2,7 @@ use Rattle.std.proofs.Common.{◌<◌, get_or, length, set, ap, refl, arith}
 use Rattle.std.proofs.lemmas.Option.{slice_get-get_or}
 use Rattle.mb_tree.specs.Roses.{id_of}
 use Rattle.mb_scope.specs.declared.jump.Around.{Around}
-use Rattle.mb_scope.specs.Around.{outside}
+use Rattle.mb_scope.specs.machine.Around.{outside}
 use Rattle.mb_scope.proofs.Knowing.{put_none, put_more, put_all}
 use Rattle.mb_scope.proofs.jump.put_around.Goals as goal
 

@@ -4,6 +4,8 @@ use Rattle.mb_base.specs.declared.value.NodeId.{NodeId}
 use Rattle.mb_tree.specs.Roses.{shapes, view}
 use Rattle.mb_tree.proofs.Heights.{parts_first}
 use Rattle.mb_scope.proofs.Adding.{there, among_all}
+use Rattle.mb_scope.specs.Kinds.{group_part}
+use Rattle.mb_scope.proofs.Picking.{group_first}
 use Rattle.mb_scope.proofs.Targeting.{target_simple, target_invalid, target_up, target_down, target_empty}
 use Rattle.mb_scope.proofs.target.can_be_assigned.Goals as goal
 
@@ -23,20 +25,21 @@ pub loop-part-smaller : goal.loop-part-smaller
 loop-part-smaller c =
     let n = c.index-node.result.now in
     let is = there c.args.tree.now c.loop-part.id.0 n c.loop-part.invariant.there c.index-node.ensures in
-    let first : slice_get n.children.items 0 ≡ Some c.in-Some.part.now = sym (ap (λ (xs : List NodeId). slice_get xs 0) c.deref.ensures.value) ∙ sym c.in-Some.ensures.value in
-    parts_first c.requires.whole c.loop-part.id.0 (view n) is 0 c.in-Some.part.now first
+    let first : slice_get n.children.items 0 ≡ Some c.in-Some.part = group_first n.kind n.children.items c.in-Some.part (sym c.in-Some.ensures) in
+    parts_first c.requires.whole c.loop-part.id.0 (view n) is 0 c.in-Some.part first
 
 pub loop-part-preserved : goal.loop-part-preserved
 loop-part-preserved c =
     let s = shapes c.args.tree.now in
     let n = c.index-node.result.now in
-    let part = c.in-Some.part.now in
+    let part = c.in-Some.part in
     let is = there c.args.tree.now c.loop-part.id.0 n c.loop-part.invariant.there c.index-node.ensures in
-    let first : slice_get n.children.items 0 ≡ Some part = sym (ap (λ (xs : List NodeId). slice_get xs 0) c.deref.ensures.value) ∙ sym c.in-Some.ensures.value in
+    let inner : group_part n.kind n.children.items ≡ Some part = sym c.in-Some.ensures in
+    let first : slice_get n.children.items 0 ≡ Some part = group_first n.kind n.children.items part inner in
     record {
       there = among_all c.args.tree.now c.loop-part.id.0 n c.loop-part.invariant.there c.index-node.ensures c.requires.whole 0 part first;
-      up = λ t. c.loop-part.invariant.up (target_up s c.loop-part.id part (view n) is (sym c.in-Grouped.ensures) first t);
-      down = λ t. target_down s c.loop-part.id part (view n) is (sym c.in-Grouped.ensures) first (c.loop-part.invariant.down t);
+      up = λ t. c.loop-part.invariant.up (target_up s c.loop-part.id part (view n) is (sym c.in-Grouped.ensures) inner t);
+      down = λ t. target_down s c.loop-part.id part (view n) is (sym c.in-Grouped.ensures) inner (c.loop-part.invariant.down t);
     }
 
 pub returns-in-None : goal.returns-in-None
@@ -44,5 +47,5 @@ returns-in-None c =
     let s = shapes c.args.tree.now in
     let n = c.index-node.result.now in
     let is = there c.args.tree.now c.loop-part.id.0 n c.loop-part.invariant.there c.index-node.ensures in
-    let none : slice_get n.children.items 0 ≡ None = sym (ap (λ (xs : List NodeId). slice_get xs 0) c.deref.ensures.value) ∙ sym c.in-None.ensures.value in
+    let none : group_part n.kind n.children.items ≡ None = sym c.in-None.ensures in
     (λ h. absurd (let z : ⊥ = cc in z), λ t. absurd (target_empty s c.loop-part.id (view n) is (sym c.in-Grouped.ensures) none (c.loop-part.invariant.down t)))

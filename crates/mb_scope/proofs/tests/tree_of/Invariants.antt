@@ -1,5 +1,5 @@
 use Rattle.mb_tree.specs.Roses.{shapes}
-use Rattle.mb_scope.specs.Rows.{IsBuilt}
+use Rattle.mb_scope.specs.machine.Rows.{IsBuilt}
 use Rattle.mb_scope.proofs.tests.tree_of.Given as goal
 
 abbrev pub invariant-loop-row : goal.invariant-loop-row

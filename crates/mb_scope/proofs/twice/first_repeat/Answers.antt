@@ -3,7 +3,7 @@ use Rattle.std.specs.Prelude.{nat_eq}
 use Rattle.std.specs.HashSet.{contains}
 use Rattle.std.proofs.lemmas.Bool.{not-true, not-false}
 use Rattle.std.proofs.lemmas.Option.{slice_get-get_or}
-use Rattle.mb_scope.specs.First.{IsFirst}
+use Rattle.mb_scope.specs.machine.First.{IsFirst}
 use Rattle.mb_scope.proofs.Repeating.{RepeatsBelow, seen_more, first_new, first_old, repeats_all, blank}
 use Rattle.mb_scope.proofs.twice.first_repeat.Goals as goal
 use Rattle.mb_scope.proofs.twice.first_repeat.Goals.{then-not-branch, else-not-branch}

@@ -1,6 +1,6 @@
 use Rattle.std.specs.Prelude.{nat_eq}
 use Rattle.std.specs.HashSet.{contains}
-use Rattle.mb_scope.specs.First.{IsFirst}
+use Rattle.mb_scope.specs.machine.First.{IsFirst}
 use Rattle.mb_scope.proofs.Repeating.{IsSeen, RepeatsBelow}
 use Rattle.mb_scope.proofs.twice.first_repeat.Given as goal
 

@@ -1,7 +1,7 @@
 use Rattle.std.proofs.Common.{◌+◌, List, sym, subst, ◌∙◌}
 use Rattle.mb_tree.specs.Roses.{shapes, view}
 use Rattle.mb_scope.specs.declared.binding.Binding.{Binding}
-use Rattle.mb_scope.specs.First.{IsFirst}
+use Rattle.mb_scope.specs.machine.First.{IsFirst}
 use Rattle.mb_scope.specs.Bindings.{Repeats}
 use Rattle.mb_scope.proofs.Adding.{item, item_end, item_there, item_parts}
 use Rattle.mb_scope.proofs.Naming.{TwiceBelow, twice_more, twice_all}

@@ -1,5 +1,5 @@
 use Rattle.mb_tree.specs.Roses.{shapes}
-use Rattle.mb_scope.specs.First.{IsFirst}
+use Rattle.mb_scope.specs.machine.First.{IsFirst}
 use Rattle.mb_scope.proofs.Naming.{TwiceBelow}
 use Rattle.mb_scope.proofs.twice.first_twice.Given as goal
 

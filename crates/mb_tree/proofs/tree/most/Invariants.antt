@@ -1,5 +1,5 @@
 use Rattle.std.proofs.Common.{◌≡◌, max, drop}
-use Rattle.mb_tree.specs.Heights.{most_at}
+use Rattle.mb_tree.specs.machine.Below.{most_at}
 use Rattle.mb_tree.proofs.tree.most.Given as goal
 
 abbrev pub invariant-loop-id : goal.invariant-loop-id

@@ -3,7 +3,9 @@ use Rattle.std.proofs.lemmas.List.{length-map}
 use Rattle.std.proofs.lemmas.Option.{slice_get-get_or}
 use Rattle.mb_parse_expr.specs.declared.machine.Move.TheVariants.{Leaf, Enter, Begin, Swap, Build, Suffix, Turn, Pause, Ended, Wrong}
 use Rattle.mb_tree.specs.Roses.{view}
-use Rattle.mb_parse_expr.proofs.Place.{Chosen, reading_leaf, reading_begin, reading_enter, reading_swap, reading_turn, waiting_pause, waiting_needs, reading_suffix, reading_build, reading_popped, reading_fit, reading_ended, reading_wrong, shorter}
+use Rattle.mb_parse_expr.proofs.Place.{Chosen, reading_leaf, reading_begin, reading_enter, reading_swap, reading_turn, waiting_pause, waiting_needs, reading_suffix, reading_build, reading_popped, reading_fit, reading_ended, reading_wrong}
+use Rattle.mb_tree.proofs.Stack.{shorter}
+use Rattle.mb_tree.proofs.Growing.{extends_same, extends_on}
 use Rattle.mb_parse_expr.proofs.Counts.{chosen_within, reading_count}
 use Rattle.mb_parse_expr.proofs.parser.ExprParser.run.Goals as goal
 
@@ -21,32 +23,32 @@ steps-preserved-in-Leaf c =
     let ch : Chosen c.args.tokens.now c.steps.self.frames.items c.steps.self.mode c.steps.self.at (Leaf c.in-Leaf.label c.in-Leaf.mode) = record { o = c.top_of.result; tops = λ fs e. c.top_of.ensures fs (c.deref-in-steps.ensures.value ∙ e); is = cc } in
     let w : c.steps.self.at < length c.args.tokens.now = chosen_within ch tt in
     let b = c.in_ok-build-in-Leaf.ensures.built c.steps.self.operands.items [] (sym (append-nil c.steps.self.operands.items)) refl in
-    record { within = omega arith; forward = omega arith; empty = c.steps.invariant.empty; few = c.in_ok-build-in-Leaf.ensures.few; each = λ level start base ds q. reading_leaf (c.steps.invariant.each level start base ds q) _ _ _ _ ch b.0 b.1 }
+    record { within = omega arith; forward = omega arith; empty = c.steps.invariant.empty; few = c.in_ok-build-in-Leaf.ensures.few; first = extends_on _ c.steps.invariant.first b.1; each = λ level start base ds q. reading_leaf (c.steps.invariant.each level start base ds q) _ _ _ _ ch b.0 b.1 }
 
 pub steps-preserved-in-Begin : goal.steps-preserved-in-Begin
 steps-preserved-in-Begin c =
     let ch : Chosen c.args.tokens.now c.steps.self.frames.items c.steps.self.mode c.steps.self.at (Begin c.in-Begin.label c.in-Begin.frame c.in-Begin.mode) = record { o = c.top_of.result; tops = λ fs e. c.top_of.ensures fs (c.deref-in-steps.ensures.value ∙ e); is = cc } in
     let w : c.steps.self.at < length c.args.tokens.now = chosen_within ch tt in
     let b = c.in_ok-build-in-Begin.ensures.built c.steps.self.operands.items [] (sym (append-nil c.steps.self.operands.items)) refl in
-    record { within = omega arith; forward = omega arith; empty = c.steps.invariant.empty; few = c.in_ok-build-in-Begin.ensures.few; each = λ level start base ds q. reading_begin (c.steps.invariant.each level start base ds q) _ _ _ _ _ _ ch c.in_ok-push-in-Begin.ensures.items b.0 b.1 }
+    record { within = omega arith; forward = omega arith; empty = c.steps.invariant.empty; few = c.in_ok-build-in-Begin.ensures.few; first = extends_on _ c.steps.invariant.first b.1; each = λ level start base ds q. reading_begin (c.steps.invariant.each level start base ds q) _ _ _ _ _ _ ch c.in_ok-push-in-Begin.ensures.items b.0 b.1 }
 
 pub steps-preserved-in-Enter : goal.steps-preserved-in-Enter
 steps-preserved-in-Enter c =
     let ch : Chosen c.args.tokens.now c.steps.self.frames.items c.steps.self.mode c.steps.self.at (Enter c.in-Enter.frame c.in-Enter.mode) = record { o = c.top_of.result; tops = λ fs e. c.top_of.ensures fs (c.deref-in-steps.ensures.value ∙ e); is = cc } in
     let w : c.steps.self.at < length c.args.tokens.now = chosen_within ch tt in
-    record { within = omega arith; forward = omega arith; empty = c.steps.invariant.empty; few = c.steps.invariant.few; each = λ level start base ds q. reading_enter (c.steps.invariant.each level start base ds q) _ _ _ ch c.in_ok-push-in-Enter.ensures.items }
+    record { within = omega arith; forward = omega arith; empty = c.steps.invariant.empty; few = c.steps.invariant.few; first = c.steps.invariant.first; each = λ level start base ds q. reading_enter (c.steps.invariant.each level start base ds q) _ _ _ ch c.in_ok-push-in-Enter.ensures.items }
 
 pub steps-preserved-in-Turn : goal.steps-preserved-in-Turn
 steps-preserved-in-Turn c =
     let ch : Chosen c.args.tokens.now c.steps.self.frames.items c.steps.self.mode c.steps.self.at (Turn c.in-Turn.mode) = record { o = c.top_of.result; tops = λ fs e. c.top_of.ensures fs (c.deref-in-steps.ensures.value ∙ e); is = cc } in
     let w : c.steps.self.at < length c.args.tokens.now = chosen_within ch tt in
-    record { within = omega arith; forward = omega arith; empty = c.steps.invariant.empty; few = c.steps.invariant.few; each = λ level start base ds q. reading_turn (c.steps.invariant.each level start base ds q) _ ch }
+    record { within = omega arith; forward = omega arith; empty = c.steps.invariant.empty; few = c.steps.invariant.few; first = c.steps.invariant.first; each = λ level start base ds q. reading_turn (c.steps.invariant.each level start base ds q) _ ch }
 
 pub steps-preserved-in-Swap : goal.steps-preserved-in-Swap
 steps-preserved-in-Swap c =
     let ch : Chosen c.args.tokens.now c.steps.self.frames.items c.steps.self.mode c.steps.self.at (Swap c.in-Swap.frame c.in-Swap.mode) = record { o = c.top_of.result; tops = λ fs e. c.top_of.ensures fs (c.deref-in-steps.ensures.value ∙ e); is = cc } in
     let w : c.steps.self.at < length c.args.tokens.now = chosen_within ch tt in
-    record { within = omega arith; forward = omega arith; empty = c.steps.invariant.empty; few = c.steps.invariant.few; each = λ level start base ds q. reading_swap (c.steps.invariant.each level start base ds q) _ _ _ c.pop.new.self.items _ ch c.steps.self.frames.ok.0 c.pop.ensures.rest c.in_ok-push-in-Swap.ensures.items }
+    record { within = omega arith; forward = omega arith; empty = c.steps.invariant.empty; few = c.steps.invariant.few; first = c.steps.invariant.first; each = λ level start base ds q. reading_swap (c.steps.invariant.each level start base ds q) _ _ _ c.pop.new.self.items _ ch c.steps.self.frames.ok.0 c.pop.ensures.rest c.in_ok-push-in-Swap.ensures.items }
 
 pub build-requires-in-Suffix : goal.build-requires-in-Suffix
 build-requires-in-Suffix c =
@@ -65,6 +67,11 @@ steps-preserved-in-Suffix c =
       forward = omega arith;
       empty = c.steps.invariant.empty;
       few = c.in_ok-build-in-Suffix.ensures.few;
+      first =
+          let q = c.requires.reading in
+          let h = c.steps.invariant.each q.0 q.1 q.2 q.3 q.4 in
+          let b = reading_suffix h _ _ ch in
+          extends_on _ c.steps.invariant.first (c.in_ok-build-in-Suffix.ensures.built b.front b.kids b.ids_are b.count).1;
       each = λ level start base ds q.
           let h = c.steps.invariant.each level start base ds q in
           let b = reading_suffix h _ _ ch in
@@ -93,6 +100,9 @@ steps-preserved-then-taken c =
       forward = omega arith;
       empty = c.steps.invariant.empty;
       few = c.in_ok-build-in-Build.ensures.few;
+      first =
+          let b = (reading_build h _ _ _ _ ch).0 in
+          extends_on _ c.steps.invariant.first (c.in_ok-build-in-Build.ensures.built b.front b.kids b.ids_are b.count).1;
       each = λ level start base ds z.
           let g = c.steps.invariant.each level start base ds z in
           let b = (reading_build g _ _ _ _ ch).0 in
@@ -112,6 +122,9 @@ steps-preserved c =
       forward = omega arith;
       empty = c.steps.invariant.empty;
       few = c.in_ok-build-in-Build.ensures.few;
+      first =
+          let b = (reading_build h _ _ _ _ ch).0 in
+          extends_on _ c.steps.invariant.first (c.in_ok-build-in-Build.ensures.built b.front b.kids b.ids_are b.count).1;
       each = λ level start base ds z.
           let g = c.steps.invariant.each level start base ds z in
           let b = (reading_build g _ _ _ _ ch).0 in

@@ -3,7 +3,8 @@ use Rattle.std.proofs.lemmas.List.{length-map}
 use Rattle.mb_tree.specs.Roses.{view}
 use Rattle.mb_parse_stmt.specs.declared.machine.Move.TheVariants.{Leaf, Enter, Swap, Build, Ask, Ended, Wrong}
 use Rattle.mb_parse_stmt.proofs.Counts.{reading_count, reading_within}
-use Rattle.mb_parse_stmt.proofs.Place.{Chosen, chosen_light, shorter, leaf_within, enter_within, swap_within, reading_leaf, reading_enter, reading_swap, reading_build, built_enough, reading_popped, reading_fit, wanting_ask, none_wrong, all_ended}
+use Rattle.mb_parse_stmt.proofs.Place.{Chosen, chosen_light, leaf_within, enter_within, swap_within, reading_leaf, reading_enter, reading_swap, reading_build, built_enough, reading_popped, reading_fit, wanting_ask, none_wrong, all_ended}
+use Rattle.mb_tree.proofs.Stack.{shorter}
 use Rattle.mb_parse_stmt.proofs.statements.StatementParser.advance.Goals as goal
 
 pub view-view-requires : goal.view-view-requires

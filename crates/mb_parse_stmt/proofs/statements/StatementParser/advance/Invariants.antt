@@ -1,6 +1,6 @@
 use Rattle.std.proofs.Common.{◌≡◌, ℕ, ◌+◌, ◌-◌, ◌*◌, ◌≤◌, List, length, vec_len}
 use Rattle.mb_tree.specs.Roses.{Shape, shapes}
-use Rattle.mb_parse_stmt.specs.Answers.{IsReading, taken}
+use Rattle.mb_parse_stmt.specs.machine.Stops.{IsReading, taken}
 use Rattle.mb_parse_stmt.proofs.Counts.{weight}
 use Rattle.mb_parse_stmt.proofs.statements.StatementParser.advance.Given as goal
 

@@ -4,7 +4,7 @@ use Rattle.std.proofs.lemmas.Grind.{common_steps}
 use Rattle.std.proofs.lemmas.Option.{unwrap_or-slice_get}
 use Rattle.mb_base.specs.declared.value.NodeId.{NodeId}
 use Rattle.mb_tree.specs.Roses.{write, shapes, view, root}
-use Rattle.mb_tree.specs.Heights.{most_at, AreAmong}
+use Rattle.mb_tree.specs.machine.Below.{most_at, AreAmong}
 use Rattle.mb_tree.proofs.Heights.{heights_on, view_next, view_there, item_there, heights_step, heights_end, low_step, height_last, most_low, parts_first}
 use Rattle.mb_tree.proofs.tree.Tree.height.Goals as goal
 

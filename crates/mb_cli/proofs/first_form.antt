@@ -1,0 +1,11 @@
+pub mod Endings
+pub mod FirstForm
+pub mod FirstTokens
+pub mod FirstTree
+pub mod Meanings
+pub mod Numbers
+pub mod Progress
+pub mod Quoted
+pub mod Runs
+pub mod Statements
+pub mod Steps

@@ -1,6 +1,0 @@
-use Rattle.std.proofs.Common.{false}
-use Rattle.mb_cli.proofs.Steps.{at_most_one}
-use Rattle.mb_cli.proofs.reading.tokens_are_unique.Goals as goal
-
-pub returns : goal.returns
-returns c bytes a b = at_most_one 0 false bytes a b

@@ -1,5 +1,0 @@
-use Rattle.mb_cli.proofs.Statements.{literals_once}
-use Rattle.mb_cli.proofs.script.literals_are_unique.Goals as goal
-
-pub returns : goal.returns
-returns c bytes a b = literals_once bytes a b

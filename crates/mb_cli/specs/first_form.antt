@@ -1,0 +1,5 @@
+pub mod Form
+pub mod Lexemes
+pub mod Prints
+pub mod Text
+pub mod machine

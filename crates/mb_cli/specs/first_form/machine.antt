@@ -1,0 +1,4 @@
+pub mod FormFaults
+pub mod Literals
+pub mod Meanings
+pub mod Whole

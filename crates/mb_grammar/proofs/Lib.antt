@@ -1,0 +1,4 @@
+pub mod Forward
+pub mod FirstTokens
+pub mod Renamed
+pub mod Forms

@@ -1,0 +1,46 @@
+use Rattle.std.proofs.Common.{◌≡◌, ℕ, zero, suc, ◌+◌, ◌≤◌, List, [], ◌∷◌, ◌++◌, length, slice_get, slice_set, refl, ◌∙◌, ap, arith}
+use Rattle.std.proofs.lemmas.List.{length-set}
+use Rattle.mb_world.specs.Value.{Val}
+use Rattle.mb_world.specs.Graph.{Job, Script, Call as CallJob}
+use Rattle.mb_model.specs.BuiltIns.Basics.{queue_or_empty, with_job}
+use Rattle.mb_model.proofs.Kept.Words.{Kept}
+
+-- along rows no script begins to wait, and the number of queues stays
+
+-- a script that waits counts one
+abbrev pub script_of : Job → ℕ
+script_of Script = 1
+script_of (CallJob v) = 0
+
+abbrev pub scripts_of : List Job → ℕ
+scripts_of [] = 0
+scripts_of (j ∷ js) = script_of j + scripts_of js
+
+-- how many scripts wait in all queues
+abbrev pub scripts : List (List Job) → ℕ
+scripts [] = 0
+scripts (q ∷ qs) = scripts_of q + scripts qs
+
+call-added : (q : List Job) (v : Val) → scripts_of (q ++ (CallJob v ∷ [])) ≡ scripts_of q
+call-added [] v = refl
+call-added (j ∷ js) v = ap (λ x. script_of j + x) (call-added js v)
+
+pub scripts-added : (qs : List (List Job)) (s : ℕ) (v : Val) →
+    scripts (slice_set qs s (queue_or_empty (slice_get qs s) ++ (CallJob v ∷ []))) ≡ scripts qs
+scripts-added [] s v = refl
+scripts-added (q ∷ qs) zero v = ap (λ x. x + scripts qs) (call-added q v)
+scripts-added (q ∷ qs) (suc s) v = ap (λ x. scripts_of q + x) (scripts-added qs s v)
+
+-- there are k queues, and at most n scripts wait
+abbrev pub queued : (k n : ℕ) → Kept
+queued k n = record {
+  holds = λ g. (length g.queues ≡ k) × (scripts g.queues ≤ n);
+  objects = λ g ts h. h;
+  symbols = λ g ds h. h;
+  scopes = λ g ss h. h;
+  log = λ g is h. h;
+  job = λ g s v h.
+      let same : length (with_job s (CallJob v) g).queues ≡ length g.queues = length-set g.queues s _ in
+      let few : scripts (with_job s (CallJob v) g).queues ≡ scripts g.queues = scripts-added g.queues s v in
+      (same ∙ h.0, omega (arith, few, h));
+}

@@ -1,0 +1,4 @@
+pub mod Engine
+pub mod Entries
+pub mod Rounds
+pub mod Kept

@@ -1,0 +1,12 @@
+pub mod Engine
+pub mod Task
+pub mod Writing
+pub mod Operations
+pub mod Objects
+pub mod Nodes
+pub mod BuiltIns
+pub mod Trace
+pub mod Meaning
+pub mod Story
+pub mod Spelling
+pub mod Text

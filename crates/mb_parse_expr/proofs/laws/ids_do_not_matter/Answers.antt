@@ -1,5 +1,0 @@
-use Rattle.mb_parse_expr.proofs.Renamed.{statements_renamed}
-use Rattle.mb_parse_expr.proofs.laws.ids_do_not_matter.Goals as goal
-
-pub returns : goal.returns
-returns c f ts parts i j q = statements_renamed f ts q

@@ -1,0 +1,51 @@
+use Rattle.std.specs.Prelude.{refl, ℕ, List, [], ◌∷◌, false, codes}
+use Rattle.mb_desc.specs.Validate.{Validate}
+use Rattle.mb_world.specs.Form.{ScriptForm, ExprStmtForm, NameForm}
+use Rattle.mb_world.specs.Graph.{Program, Rule}
+use Rattle.mb_model.specs.Engine.{given}
+use Rattle.mb_model.specs.Story.{Stage, Letter, Story}
+use Rattle.mb_rows.specs.Shows.{Shows}
+
+-- run
+-- left
+--     x;
+-- right
+--     (empty)
+
+abbrev left : Program
+left = record {
+  forms =
+      NameForm (codes "x") ∷ ExprStmtForm 0 ∷ ScriptForm (1 ∷ []) ∷
+      [];
+  names = [];
+}
+
+abbrev right : Program
+right = record {
+  forms =
+      ScriptForm [] ∷
+      [];
+  names = [];
+}
+
+abbrev policy : List Rule
+policy = []
+
+abbrev schedule : List Letter
+schedule = []
+
+abbrev told : List (List ℕ)
+told =
+    (codes "L! ReferenceError") ∷
+    (codes "= uncaught") ∷
+    []
+
+abbrev stage : Stage
+stage = Story (left ∷ right ∷ []) policy schedule 1000000
+
+pub Row : Type 0
+Row = Shows false false stage told
+
+pub row : Row
+unfolding Row given Validate
+row = (refl, refl)

@@ -1,0 +1,53 @@
+use Rattle.std.specs.Prelude.{refl, ℕ, List, [], ◌∷◌, false, codes, pos}
+use Rattle.mb_tree.specs.declared.kind.Sign.TheVariants.{Plus}
+use Rattle.mb_desc.specs.Validate.{Validate}
+use Rattle.mb_world.specs.Form.{ScriptForm, ExprStmtForm, NameForm, NumberForm, CallForm, BinaryForm}
+use Rattle.mb_world.specs.Graph.{Program, Rule}
+use Rattle.mb_model.specs.Engine.{given}
+use Rattle.mb_model.specs.Story.{Stage, Letter, Story}
+use Rattle.mb_rows.specs.Shows.{Shows}
+
+-- run
+-- left
+--     print(1+1);
+-- right
+--     (empty)
+
+abbrev left : Program
+left = record {
+  forms =
+      NameForm (codes "print") ∷ NumberForm (pos 1) ∷ NumberForm (pos 1) ∷ BinaryForm Plus 1 2 ∷
+      CallForm 0 (3 ∷ []) ∷ ExprStmtForm 4 ∷ ScriptForm (5 ∷ []) ∷
+      [];
+  names = [];
+}
+
+abbrev right : Program
+right = record {
+  forms =
+      ScriptForm [] ∷
+      [];
+  names = [];
+}
+
+abbrev policy : List Rule
+policy = []
+
+abbrev schedule : List Letter
+schedule = []
+
+abbrev told : List (List ℕ)
+told =
+    (codes "L 2") ∷
+    (codes "= done") ∷
+    []
+
+abbrev stage : Stage
+stage = Story (left ∷ right ∷ []) policy schedule 1000000
+
+pub Row : Type 0
+Row = Shows false false stage told
+
+pub row : Row
+unfolding Row given Validate
+row = (refl, refl)

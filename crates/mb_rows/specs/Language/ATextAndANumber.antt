@@ -1,0 +1,55 @@
+use Rattle.std.specs.Prelude.{refl, ℕ, List, [], ◌∷◌, false, codes, pos}
+use Rattle.mb_desc.specs.Validate.{Validate}
+use Rattle.mb_world.specs.Form.{ScriptForm, ExprStmtForm, NameForm, NumberForm, TextForm, CallForm}
+use Rattle.mb_world.specs.Graph.{Program, Rule}
+use Rattle.mb_model.specs.Engine.{given}
+use Rattle.mb_model.specs.Story.{Stage, Letter, Story}
+use Rattle.mb_rows.specs.Shows.{Shows}
+
+-- run
+-- left
+--     print("a b");
+--     print(0);
+-- right
+--     (empty)
+
+abbrev left : Program
+left = record {
+  forms =
+      NameForm (codes "print") ∷ TextForm (codes "a b") ∷ CallForm 0 (1 ∷ []) ∷ ExprStmtForm 2 ∷
+      NameForm (codes "print") ∷ NumberForm (pos 0) ∷ CallForm 4 (5 ∷ []) ∷ ExprStmtForm 6 ∷
+      ScriptForm (3 ∷ 7 ∷ []) ∷
+      [];
+  names = [];
+}
+
+abbrev right : Program
+right = record {
+  forms =
+      ScriptForm [] ∷
+      [];
+  names = [];
+}
+
+abbrev policy : List Rule
+policy = []
+
+abbrev schedule : List Letter
+schedule = []
+
+abbrev told : List (List ℕ)
+told =
+    (codes "L a b") ∷
+    (codes "L 0") ∷
+    (codes "= done") ∷
+    []
+
+abbrev stage : Stage
+stage = Story (left ∷ right ∷ []) policy schedule 1000000
+
+pub Row : Type 0
+Row = Shows false false stage told
+
+pub row : Row
+unfolding Row given Validate
+row = (refl, refl)

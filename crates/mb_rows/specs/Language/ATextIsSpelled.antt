@@ -1,0 +1,52 @@
+use Rattle.std.specs.Prelude.{refl, ℕ, List, [], ◌∷◌, false, codes}
+use Rattle.mb_desc.specs.Validate.{Validate}
+use Rattle.mb_world.specs.Form.{ScriptForm, ExprStmtForm, NameForm, TextForm, CallForm}
+use Rattle.mb_world.specs.Graph.{Program, Rule}
+use Rattle.mb_model.specs.Engine.{given}
+use Rattle.mb_model.specs.Story.{Stage, Letter, Story}
+use Rattle.mb_rows.specs.Shows.{Shows}
+
+-- run
+-- left
+--     print("a\n\u00e9\ud83d");
+-- right
+--     (empty)
+
+abbrev left : Program
+left = record {
+  forms =
+      NameForm (codes "print") ∷ TextForm (97 ∷ 10 ∷ 233 ∷ 55357 ∷ []) ∷ CallForm 0 (1 ∷ []) ∷ ExprStmtForm 2 ∷
+      ScriptForm (3 ∷ []) ∷
+      [];
+  names = [];
+}
+
+abbrev right : Program
+right = record {
+  forms =
+      ScriptForm [] ∷
+      [];
+  names = [];
+}
+
+abbrev policy : List Rule
+policy = []
+
+abbrev schedule : List Letter
+schedule = []
+
+abbrev told : List (List ℕ)
+told =
+    (76 ∷ 32 ∷ 97 ∷ 92 ∷ 110 ∷ 195 ∷ 169 ∷ 92 ∷ 117 ∷ 100 ∷ 56 ∷ 51 ∷ 100 ∷ []) ∷
+    (codes "= done") ∷
+    []
+
+abbrev stage : Stage
+stage = Story (left ∷ right ∷ []) policy schedule 1000000
+
+pub Row : Type 0
+Row = Shows false false stage told
+
+pub row : Row
+unfolding Row given Validate
+row = (refl, refl)

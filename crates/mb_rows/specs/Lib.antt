@@ -1,0 +1,12 @@
+pub mod Shows
+pub mod Language
+pub mod BuiltIns
+pub mod Membrane
+pub mod Turns
+pub mod Policy
+pub mod Proxies
+pub mod Symbols
+pub mod Collections
+pub mod Sides
+pub mod Traces
+pub mod Units

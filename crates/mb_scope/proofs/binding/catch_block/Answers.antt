@@ -1,0 +1,7 @@
+use Rattle.std.proofs.Common.{◌∙◌}
+use Rattle.mb_tree.specs.Roses.{label_of}
+use Rattle.mb_scope.proofs.Picking.{handler_picked}
+use Rattle.mb_scope.proofs.binding.catch_block.Goals as goal
+
+pub returns : goal.returns
+returns c = c.named_handler.ensures ∙ handler_picked c.args.node.now.kind (label_of c.args.node.now) c.args.node.now.children.items c.form.result c.form.ensures

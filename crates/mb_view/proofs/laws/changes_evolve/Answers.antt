@@ -1,0 +1,5 @@
+use Rattle.mb_view.proofs.Sorted.{sorted-changes}
+use Rattle.mb_view.proofs.laws.changes_evolve.Goals as goal
+
+pub returns : goal.returns
+returns g c = sorted-changes g.K.PartialEq.eq g.K.Name.sort_of g.met.K.Name.same_key g.met.K.Eq.laws.refl g.V.PartialEq.eq g.V.Slot.undefined_value g.met.V.Slot.same

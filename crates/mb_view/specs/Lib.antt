@@ -1,0 +1,16 @@
+pub mod Sublists
+pub mod Views
+pub mod Changes
+pub mod Shown
+pub mod Following
+pub mod Promises
+pub mod Entries
+pub mod Passing
+pub mod Lean
+pub mod OwnKeys
+pub mod Arrays
+pub mod Resolved
+pub mod Laws
+pub mod Ordinary
+pub mod Keys
+pub mod Needs

@@ -1,0 +1,13 @@
+mod Prefixes
+mod Picks
+mod Putting
+mod Cutting
+mod Turns
+mod Operands
+mod Matched
+mod Numbers
+mod Timed
+mod Getting
+mod Ordered
+mod Rows
+mod Neighbours

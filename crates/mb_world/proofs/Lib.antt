@@ -1,0 +1,11 @@
+pub mod Stands
+pub mod Grow
+pub mod Images
+pub mod Worlds
+pub mod Queues
+pub mod Texts
+pub mod Noted
+pub mod Making
+pub mod LongTexts
+pub mod Arrays
+pub mod AfterCalls
