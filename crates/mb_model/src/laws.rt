@@ -13,7 +13,8 @@ ghost use Rattle.mb_model.specs.Story.{Stage, Letter, is_over, letters, first_st
 /// What a task gives, its charge being paid, is what its row gives, done by the meaning itself: how deep uses are nested
 /// doesn't matter.
 pub fn a_task_is_done_by_its_row<T, O, S>()
-    ensures { (row : T → S → Prog T O S) (t : T) (s : S) (f : ℕ) → given row t s f ≡ exec (meaning row) false (row t s) f }
+    ensures { (row : T → S → Prog T O S) (t : T) (s : S) (f : ℕ) →
+        given row t s f ≡ exec (meaning row) false (row t s) f }
 {}
 
 /// A task pays a unit, and then its row is done.
@@ -89,6 +90,6 @@ pub fn a_story_is_told_to_its_end()
     ensures over { (programs : List Program) (rules : List Rule) (word : List Letter) (fuel : ℕ) →
         is_over (Story programs rules word fuel) ≡ true }
     ensures enough { (programs : List Program) (rules : List Rule) (word : List Letter) (fuel more : ℕ) →
-        rounds (enough (letters word (first_stage programs rules fuel)) + more) 0 (letters word (first_stage programs rules fuel))
-        ≡ Story programs rules word fuel }
+        let stage = letters word (first_stage programs rules fuel) in
+        rounds (enough stage + more) 0 stage ≡ Story programs rules word fuel }
 {}

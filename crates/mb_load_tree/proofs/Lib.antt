@@ -1,0 +1,11 @@
+pub mod Numbers
+pub mod Pieces
+pub mod Lines
+pub mod Runs
+pub mod LeftTree
+pub mod Calm
+pub mod LeftRules
+pub mod Right
+pub mod RightTree
+pub mod RightRules
+pub mod Both
