@@ -288,7 +288,7 @@ fn refuses_other_words(rt: HostRuntime) {
         &["run", "l", "r", "s"],
         &["run", "-x", "r"],
         &["run", "l", ""],
-        &["run", "l", "-"],
+        &["run", "l", "--"],
     ];
     for words in rows {
         assert!(rt;
