@@ -1,11 +1,11 @@
 -- The invariants that the answer of a script-made Proxy's trap keeps (ECMA-262, 10.5), by their numbers in
 -- docs/PROXY-RULES.md. `same` is SameValue and `undefined` the value undefined; `real` is what the target has, and
 -- `extensible` tells whether the target is extensible.
-use Rattle.std.specs.Prelude.{ℕ, Bool, true, false, not, ◌&&◌, List, [], ◌∷◌, ◌++◌, Option, Some, None, is_some, unwrap_or, if◌then◌else◌}
+use Rattle.std.specs.Prelude.{ℕ, Bool, true, false, not, ◌&&◌, List, [], ◌∷◌, ◌++◌, Option, Some, None, is_some, if◌then◌else◌}
 use Rattle.mb_desc.specs.declared.descriptor.Desc.{Desc}
 use Rattle.mb_desc.specs.declared.descriptor.Full.{Full}
 use Rattle.mb_desc.specs.declared.descriptor.Full.TheVariants.{Datum, Accessor}
-use Rattle.mb_desc.specs.Descriptors.{is_configurable, descriptor_of}
+use Rattle.mb_desc.specs.Descriptors.{denies, is_configurable, is_fixed, is_writable, is_unwritable, property_is, descriptor_of}
 use Rattle.mb_desc.specs.Validate.{same_flag, Validate}
 use Rattle.mb_check.specs.Keys.{are_distinct, all_among}
 use Rattle.mb_check.specs.declared.verdict.Verdict.{Verdict}
@@ -16,29 +16,7 @@ abbrev pub first_broken : List (Bool × ℕ) → Verdict
 first_broken [] = Pass
 first_broken (rule ∷ rules) = if rule.0 then Broken rule.1 else first_broken rules
 
--- the field is given, and false
-abbrev pub denies : Option Bool → Bool
-denies field = not (unwrap_or field true)
-
 module _ {V : Type 0} where
-  abbrev pub is_fixed : Full V → Bool
-  is_fixed property = not (is_configurable property)
-
-  -- a data property that can be written
-  abbrev pub is_writable : Full V → Bool
-  is_writable (Datum value writable enumerable configurable) = writable
-  is_writable (Accessor get set enumerable configurable) = false
-
-  -- a data property that can't be written
-  abbrev pub is_unwritable : Full V → Bool
-  is_unwritable (Datum value writable enumerable configurable) = not writable
-  is_unwritable (Accessor get set enumerable configurable) = false
-
-  -- a property is there, and the test holds of it
-  abbrev pub property_is : (Full V → Bool) → Option (Full V) → Bool
-  property_is test None = false
-  property_is test (Some property) = test property
-
   -- IsCompatiblePropertyDescriptor (10.1.6.2)
   abbrev pub compatible : (same : V → V → Bool) (undefined : V)
       → (extensible : Bool) → (given : Desc V) → (real : Option (Full V)) → Bool

@@ -3,6 +3,7 @@ ghost use Rattle.std.specs.Prelude.{◌≡◌};
 ghost use Rattle.mb_base.specs.declared.value.Value.TheVariants.{Undefined};
 ghost use Rattle.mb_check.specs.Rules as rule;
 ghost use Rattle.mb_check.specs.Values.{is_object};
+ghost use Rattle.mb_desc.specs.Descriptors as descriptor;
 ghost use Rattle.mb_desc.specs.Descriptors.{descriptor_of, is_configurable, IsOfOneKind};
 ghost use Rattle.mb_desc.specs.Values.{equal};
 
@@ -195,7 +196,7 @@ pub fn construct(said: Value) -> Verdict
 
 // A property that isn't configurable.
 fn is_fixed(property: Full<Value>) -> bool
-    ensures { result ≡ rule.is_fixed property }
+    ensures { result ≡ descriptor.is_fixed property }
 {
     match property {
         Full::Datum { configurable, .. } | Full::Accessor { configurable, .. } => !configurable,
@@ -204,14 +205,14 @@ fn is_fixed(property: Full<Value>) -> bool
 
 // A data property that can be written.
 fn is_writable(property: Full<Value>) -> bool
-    ensures { result ≡ rule.is_writable property }
+    ensures { result ≡ descriptor.is_writable property }
 {
     matches!(property, Full::Datum { writable: true, .. })
 }
 
 // A data property that can't be written.
 fn is_unwritable(property: Full<Value>) -> bool
-    ensures { result ≡ rule.is_unwritable property }
+    ensures { result ≡ descriptor.is_unwritable property }
 {
     matches!(
         property,

@@ -1,7 +1,7 @@
 -- How a task ends, and what follows of it for a call.
 use Rattle.std.proofs.Common.{◌≡◌, ◌≢◌, ◌<◌, ◌≤◌, ℕ, List, [], ◌++◌, Option, Some, None, Bool, true, false, length, refl, sym, ap, ap₂, subst, ◌∙◌, inl, inr, arith}
 use Rattle.std.specs.Prelude.{◌⊎◌, ◌↔◌, IsSome}
-use Rattle.mb_outer.specs.Causes.{Rose}
+use Rattle.mb_outer.specs.Causes.{IsRaised}
 use Rattle.mb_lexer.specs.Feeding.{Lexing, Fed}
 use Rattle.mb_cli.specs.Sides.{left_side}
 use Rattle.mb_cli.specs.Trees.{HasTree, ScriptFault}

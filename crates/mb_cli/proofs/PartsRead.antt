@@ -5,7 +5,7 @@ use Rattle.std.proofs.lemmas.List.{append-nil, drop_all, length-take}
 use Rattle.std.proofs.Math.Seq.{drop-append_seam}
 use Rattle.std.specs.Prelude.{option_map}
 use Rattle.std.proofs.lemmas.Option.{none-some, same_Some}
-use Rattle.mb_outer.specs.Causes.{Starts, Reads}
+use Rattle.mb_outer.specs.Causes.{Starts, Gets}
 use Rattle.mb_outer.specs.Shelf.{Shelf, held}
 use Rattle.mb_outer.specs.declared.library.Start.TheVariants as start
 use Rattle.mb_outer.specs.declared.library.Got.TheVariants as got
@@ -25,7 +25,7 @@ read_started None name rest h s is = absurd (none-some s is)
 read_started (Some t) name rest h s is = record { left = h.0; rest_is = h.2; text_is = ap (held name) (sym (same_Some _ _ is)) ∙ h.1 }
 
 pub read_more : (shelf : Shelf) (name : List ℕ) (rest next : Option (List ℕ)) (text into : List ℕ) (n : ℕ)
-    → IsRead shelf name rest text → Reads rest next into (got.Bytes n) → IsRead shelf name next (text ++ take n into)
+    → IsRead shelf name rest text → Gets rest next into (got.Bytes n) → IsRead shelf name next (text ++ take n into)
 read_more shelf name None next text into n h r = absurd (none-some h.left h.rest_is)
 read_more shelf name (Some left) next text into n h r = record {
   left = r.0;
@@ -34,7 +34,7 @@ read_more shelf name (Some left) next text into n h r = record {
 }
 
 pub read_ended : (shelf : Shelf) (name : List ℕ) (rest next : Option (List ℕ)) (text into : List ℕ) → 0 < length into
-    → IsRead shelf name rest text → Reads rest next into (got.Bytes 0) → held name shelf ≡ Some text
+    → IsRead shelf name rest text → Gets rest next into (got.Bytes 0) → held name shelf ≡ Some text
 read_ended shelf name None next text into some h r = absurd (none-some h.left h.rest_is)
 read_ended shelf name (Some left) next text into some h r =
     h.text_is ∙ ap (λ x. Some (text ++ x)) (sym (same_Some _ _ h.rest_is) ∙ r.2 ∙ r.3 refl some) ∙ ap Some (append-nil text)
@@ -54,7 +54,7 @@ longer text more n into is = grind (arith, common_steps, ap length is)
 
 -- what is left where a text was read to its end, and where it has one byte more than it may have
 pub rest_at_end : (most : ℕ) (shelf : Shelf) (name : List ℕ) (rest next : Option (List ℕ)) (text into : List ℕ) → 0 < length into → length text ≤ most
-    → IsRead shelf name rest text → Reads rest next into (got.Bytes 0) → next ≡ option_map (behind (most + 1)) (held name shelf)
+    → IsRead shelf name rest text → Gets rest next into (got.Bytes 0) → next ≡ option_map (behind (most + 1)) (held name shelf)
 unfolding behind
 rest_at_end most shelf name None next text into some short h r = absurd (none-some h.left h.rest_is)
 rest_at_end most shelf name (Some left) next text into some short h r =
@@ -79,7 +79,7 @@ pub at_start : (told : Option Shelf) (name : List ℕ) (rest : Option (List ℕ)
 at_start told name rest texts lexer started fed = record { bytes = []; fed = fed; read = read_started told name rest started }
 
 pub at_more : (told : Option Shelf) (name : List ℕ) (rest next : Option (List ℕ)) (texts more : List (List ℕ)) (old new : Lexing) (into piece : List ℕ) (n : ℕ)
-    → IsAt told name rest texts old → Reads rest next into (got.Bytes n) → piece ≡ take n into
+    → IsAt told name rest texts old → Gets rest next into (got.Bytes n) → piece ≡ take n into
     → ((bytes : List ℕ) → Fed old texts bytes → Fed new more (bytes ++ piece)) → IsAt told name next more new
 at_more told name rest next texts more old new into piece n h reads is feeds = record {
   bytes = h.bytes ++ piece;
@@ -91,14 +91,14 @@ pub fed_within : (texts : List (List ℕ)) (lexer : Lexing) (bytes : List ℕ) �
 fed_within texts lexer bytes fed within = omega (arith, fed.count)
 
 pub scanned_whole : (told : Option Shelf) (name : List ℕ) (rest next : Option (List ℕ)) (texts : List (List ℕ)) (lexer : Lexing) (into : List ℕ) → 0 < length into
-    → lexer.fed ≤ 1048576 → IsAt told name rest texts lexer → Reads rest next into (got.Bytes 0) → (s : Shelf) → told ≡ Some s
+    → lexer.fed ≤ 1048576 → IsAt told name rest texts lexer → Gets rest next into (got.Bytes 0) → (s : Shelf) → told ≡ Some s
     → IsScanned texts (held name s) (Some lexer)
 scanned_whole told name rest next texts lexer into some within h reads s tells =
     subst (λ x. IsScanned texts x (Some lexer)) (sym (read_ended s name rest next h.bytes into some (h.read s tells) reads))
     (fed_within texts lexer h.bytes h.fed within, h.fed)
 
 pub scanned_long : (told : Option Shelf) (name : List ℕ) (rest next : Option (List ℕ)) (texts : List (List ℕ)) (lexer : Lexing) (into : List ℕ) (n : ℕ)
-    → n ≤ length into → 1048576 < lexer.fed + n → IsAt told name rest texts lexer → Reads rest next into (got.Bytes n) → (s : Shelf) → told ≡ Some s
+    → n ≤ length into → 1048576 < lexer.fed + n → IsAt told name rest texts lexer → Gets rest next into (got.Bytes n) → (s : Shelf) → told ≡ Some s
     → IsScanned texts (held name s) None
 scanned_long told name rest next texts lexer into n within long h reads s tells =
     let all : 1048576 < length (h.bytes ++ take n into) = omega (arith, h.fed.count, length-append h.bytes (take n into), length-take n into) in
@@ -106,13 +106,13 @@ scanned_long told name rest next texts lexer into n within long h reads s tells 
     subst (λ x. IsScanned texts x None) (sym found.1) found.2
 
 pub left_whole : (told : Option Shelf) (name : List ℕ) (rest next : Option (List ℕ)) (texts : List (List ℕ)) (lexer : Lexing) (into : List ℕ) → 0 < length into
-    → lexer.fed ≤ 1048576 → IsAt told name rest texts lexer → Reads rest next into (got.Bytes 0) → (s : Shelf) → told ≡ Some s
+    → lexer.fed ≤ 1048576 → IsAt told name rest texts lexer → Gets rest next into (got.Bytes 0) → (s : Shelf) → told ≡ Some s
     → next ≡ option_map (behind 1048577) (held name s)
 left_whole told name rest next texts lexer into some within h reads s tells =
     rest_at_end 1048576 s name rest next h.bytes into some (fed_within texts lexer h.bytes h.fed within) (h.read s tells) reads
 
 pub left_long : (told : Option Shelf) (name : List ℕ) (rest next : Option (List ℕ)) (texts : List (List ℕ)) (lexer : Lexing) (into : List ℕ) (n : ℕ)
-    → n ≤ length into → lexer.fed + n ≡ 1048577 → IsAt told name rest texts lexer → Reads rest next into (got.Bytes n) → (s : Shelf) → told ≡ Some s
+    → n ≤ length into → lexer.fed + n ≡ 1048577 → IsAt told name rest texts lexer → Gets rest next into (got.Bytes n) → (s : Shelf) → told ≡ Some s
     → next ≡ option_map (behind 1048577) (held name s)
 left_long told name rest next texts lexer into n within long h reads s tells =
     let all : length (h.bytes ++ take n into) ≡ 1048576 + 1 = omega (arith, h.fed.count, length-append h.bytes (take n into), length-take n into) in

@@ -1,6 +1,6 @@
 -- What the contract of `serve` says of a call.
 use Rattle.std.specs.Prelude.{◌≡◌, ◌≢◌, ℕ, ◌<◌, ◌≤◌, ◌⊎◌, ◌++◌, Bool, true, false, List, length, Option, Some, None, ⊤}
-use Rattle.mb_outer.specs.Causes.{Rose}
+use Rattle.mb_outer.specs.Causes.{IsRaised}
 use Rattle.mb_cli.specs.Tasks.{Task, Ends, Writes}
 use Rattle.mb_cli.specs.declared.status.Status.{Status}
 use Rattle.mb_cli.specs.declared.status.Status.TheVariants.{Done, BadWords, ReadFault, WriteFault, BadScript, TooLong, NoMemory}
@@ -51,7 +51,7 @@ Leaves status halted untouched = untouched
 -- greater nothing else is answered but want of memory.
 pub record TellsFaults (fault status : Status) (before now : ℕ) : Type 0 where
   pub later : before ≤ now
-  pub cause : status ≡ fault → Rose before now
+  pub cause : status ≡ fault → IsRaised before now
   pub told : before < now → (status ≡ fault) ⊎ (status ≡ NoMemory)
 
 -- no fault came

@@ -1,7 +1,7 @@
 // Lines, each by one put.
 ghost use Rattle.std.specs.Prelude.{◌≡◌, ◌≤◌, ◌++◌, ℕ, List, Some, length};
 ghost use Rattle.std.specs.List.{concat};
-ghost use Rattle.mb_outer.specs.Causes.{Rose};
+ghost use Rattle.mb_outer.specs.Causes.{IsRaised};
 ghost use Rattle.mb_cli.specs.machine.Lines.{contents_of, IsPrefix};
 
 use mb_outer::{Put, Sink};
@@ -10,7 +10,7 @@ use mb_outer::{Put, Sink};
 pub fn put_lines<K: Sink>(lines: &[Vec<u8>], sink: &mut K) -> Put
     ensures later { K.faults sink.old ≤ K.faults sink.new }
     ensures all { result ≡ Put.All → K.faults sink.new ≡ K.faults sink.old }
-    ensures failed { result ≡ Put.Failed → Rose (K.faults sink.old) (K.faults sink.new) }
+    ensures failed { result ≡ Put.Failed → IsRaised (K.faults sink.old) (K.faults sink.new) }
     ensures text { (taken : List ℕ) → K.taken sink.old ≡ Some taken → result ≡ Put.All
         → K.taken sink.new ≡ Some (taken ++ concat (contents_of lines.now)) }
     ensures front { (taken : List ℕ) → K.taken sink.old ≡ Some taken

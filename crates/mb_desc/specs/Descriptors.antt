@@ -4,6 +4,14 @@ use Rattle.mb_desc.specs.declared.descriptor.Desc.{Desc}
 use Rattle.mb_desc.specs.declared.descriptor.Full.{Full}
 use Rattle.mb_desc.specs.declared.descriptor.Full.TheVariants.{Datum, Accessor}
 
+-- the field is there, and true
+abbrev pub asks : Option Bool → Bool
+asks field = unwrap_or field false
+
+-- the field is there, and false
+abbrev pub denies : Option Bool → Bool
+denies field = not (unwrap_or field true)
+
 module _ {V : Type 0} where
   -- IsAccessorDescriptor (6.2.6.1)
   abbrev pub is_accessor_descriptor : Desc V → Bool
@@ -37,6 +45,24 @@ module _ {V : Type 0} where
   is_configurable (Datum value writable enumerable configurable) = configurable
   is_configurable (Accessor get set enumerable configurable) = configurable
 
+  abbrev pub is_fixed : Full V → Bool
+  is_fixed property = not (is_configurable property)
+
+  -- a data property that can be written
+  abbrev pub is_writable : Full V → Bool
+  is_writable (Datum value writable enumerable configurable) = writable
+  is_writable (Accessor get set enumerable configurable) = false
+
+  -- a data property that can't be written
+  abbrev pub is_unwritable : Full V → Bool
+  is_unwritable (Datum value writable enumerable configurable) = not writable
+  is_unwritable (Accessor get set enumerable configurable) = false
+
+  -- a property is there, and the test holds of it
+  abbrev pub property_is : (Full V → Bool) → Option (Full V) → Bool
+  property_is test None = false
+  property_is test (Some property) = test property
+
   -- CompletePropertyDescriptor (6.2.6.6): an absent field gets its default
   abbrev pub Complete : (undefined : V) → Desc V → Full V
   Complete undefined desc =
@@ -46,21 +72,24 @@ module _ {V : Type 0} where
       else Datum (unwrap_or desc.value undefined) (unwrap_or desc.writable false)
       (unwrap_or desc.enumerable false) (unwrap_or desc.configurable false)
 
+  -- a descriptor that says nothing; one that says a value alone
+  abbrev pub no_fields : Desc V
+  no_fields = record { value = None; writable = None; get = None; set = None; enumerable = None; configurable = None }
+
+  abbrev pub value_alone : V → Desc V
+  value_alone value = record no_fields { value = Some value }
+
   -- the descriptor that says all of a property: both fields of its kind and both flags
   abbrev pub descriptor_of : Full V → Desc V
   descriptor_of (Datum value writable enumerable configurable) =
-      record {
+      record no_fields {
         value = Some value;
         writable = Some writable;
-        get = None;
-        set = None;
         enumerable = Some enumerable;
         configurable = Some configurable;
       }
   descriptor_of (Accessor get set enumerable configurable) =
-      record {
-        value = None;
-        writable = None;
+      record no_fields {
         get = Some get;
         set = Some set;
         enumerable = Some enumerable;
@@ -69,6 +98,5 @@ module _ {V : Type 0} where
 
   -- the same of a property that may be absent, of which there is nothing to say
   abbrev pub fields_of : Option (Full V) → Desc V
-  fields_of None =
-      record { value = None; writable = None; get = None; set = None; enumerable = None; configurable = None }
+  fields_of None = no_fields
   fields_of (Some property) = descriptor_of property

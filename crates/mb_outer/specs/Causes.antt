@@ -9,23 +9,23 @@ use Rattle.mb_outer.specs.declared.sink.Put.{Put}
 use Rattle.mb_outer.specs.declared.sink.Put.TheVariants as put
 
 -- a count of 64 bits rose: it became greater, or stands at its end
-abbrev pub Rose : ℕ → ℕ → Type 0
-Rose before now = (before < now) ⊎ (now ≡ 2 ^ 64 - 1)
+abbrev pub IsRaised : ℕ → ℕ → Type 0
+IsRaised before now = (before < now) ⊎ (now ≡ 2 ^ 64 - 1)
 
 -- a failed start: the count of faults rose; any other start leaves the count as it was
 abbrev pub StartHasCause : ℕ → ℕ → Start → Type 0
 StartHasCause before now start.Started = now ≡ before
-StartHasCause before now start.Failed = (before ≤ now) × Rose before now
+StartHasCause before now start.Failed = (before ≤ now) × IsRaised before now
 
 -- a failed read: the count of faults rose; any other read leaves the count as it was
 abbrev pub GotHasCause : ℕ → ℕ → Got → Type 0
 GotHasCause before now (got.Bytes n) = now ≡ before
-GotHasCause before now got.Failed = (before ≤ now) × Rose before now
+GotHasCause before now got.Failed = (before ≤ now) × IsRaised before now
 
 -- a failed put: the count of faults rose; a whole put leaves the count as it was
 abbrev pub PutHasCause : ℕ → ℕ → Put → Type 0
 PutHasCause before now put.All = now ≡ before
-PutHasCause before now put.Failed = (before ≤ now) × Rose before now
+PutHasCause before now put.Failed = (before ≤ now) × IsRaised before now
 
 -- a text is started only under a name that the shelf has, where the shelf is told, and then it is the text of that
 -- name; after a failure nothing is started
@@ -36,11 +36,11 @@ Starts shelf name rest start.Failed = rest ≡ None
 
 -- where the rest of a text is told, the bytes read are its next ones and what is left is told too; no byte is read
 -- into a buffer that isn't empty only at the end of the text
-abbrev pub Reads : Option (List ℕ) → Option (List ℕ) → List ℕ → Got → Type 0
-Reads None new into answer = ⊤
-Reads (Some rest) new into (got.Bytes n) =
+abbrev pub Gets : Option (List ℕ) → Option (List ℕ) → List ℕ → Got → Type 0
+Gets None new into answer = ⊤
+Gets (Some rest) new into (got.Bytes n) =
     (left : List ℕ) × (new ≡ Some left) × (rest ≡ take n into ++ left) × (n ≡ 0 → 0 < length into → left ≡ [])
-Reads (Some rest) new into got.Failed = ⊤
+Gets (Some rest) new into got.Failed = ⊤
 
 -- at most as many bytes as the buffer has
 abbrev pub GotWithin : Got → List ℕ → Type 0

@@ -1,12 +1,12 @@
 // Counts of calls and faults, which stay at their end.
 ghost use Rattle.std.specs.Prelude.{◌≡◌, ◌≤◌, IsTrue, false, None, nat_eq};
-ghost use Rattle.mb_outer.specs.Causes.{Rose};
+ghost use Rattle.mb_outer.specs.Causes.{IsRaised};
 ghost use Rattle.mb_outer.specs.Counts.{one_more, names_next, next_of, none_above};
 ghost use Rattle.std.specs.Map.{keys_of, lookup};
 
 pub(crate) fn count_fault(faults: &mut u64)
     ensures exact { faults.new ≡ one_more faults.old }
-    ensures rose { (faults.old ≤ faults.new) × Rose faults.old faults.new }
+    ensures rose { (faults.old ≤ faults.new) × IsRaised faults.old faults.new }
 {
     *faults = faults.saturating_add(1);
 }

@@ -1,6 +1,6 @@
 // Texts by their names.
 ghost use Rattle.std.specs.Prelude.{◌≡◌, ◌≢◌, ℕ, List, Option, Some, None, Bool, IsSome, IsTrue};
-ghost use Rattle.mb_outer.specs.Causes.{StartHasCause, GotHasCause, Starts, Reads, GotWithin};
+ghost use Rattle.mb_outer.specs.Causes.{StartHasCause, GotHasCause, Starts, Gets, GotWithin};
 ghost use Rattle.mb_outer.specs.Shelf.{Shelf, held};
 
 /// The answer of [`Library::start`].
@@ -52,7 +52,7 @@ pub trait Library {
         ensures sound { IsTrue (sound self.old) → IsTrue (sound self.new) }
         ensures cause { GotHasCause (faults self.old) (faults self.new) result }
         ensures bound { GotWithin result into.new }
-        ensures bytes { Reads (rest self.old) (rest self.new) into.new result }
+        ensures bytes { Gets (rest self.old) (rest self.new) into.new result }
         ensures never { IsTrue (sound self.old) → IsSome (rest self.old) → result ≢ Got.Failed }
         ensures idle { IsSome (shelf self.old) → rest self.old ≡ None → result ≡ Got.Failed };
 

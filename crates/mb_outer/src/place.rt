@@ -28,7 +28,7 @@ impl Place {
         None
     }
 
-    // Reads at most a piece into the front of the buffer, and goes on behind what was read.
+    // Gets at most a piece into the front of the buffer, and goes on behind what was read.
     pub(crate) fn read(
         &mut self,
         shelf: &[(String, Vec<u8>)],

@@ -72,7 +72,7 @@ impl ShelfLibrary {
 
 impl Library for ShelfLibrary {
     ghost use Rattle.std.specs.Prelude.{◌≡◌, ◌≢◌, Some, None, IsTrue, IsSome, refl, length};
-    ghost use Rattle.mb_outer.specs.Causes.{StartHasCause, GotHasCause, Reads};
+    ghost use Rattle.mb_outer.specs.Causes.{StartHasCause, GotHasCause, Gets};
     ghost use Rattle.mb_outer.specs.Shelf.{held};
     ghost use Rattle.mb_outer.specs.ShelfState.{is_sound, next_text, next_bytes, after_start, after_read, start_answer, read_answer, filled};
 
@@ -114,7 +114,7 @@ impl Library for ShelfLibrary {
         // of the trait's clauses those that don't follow from these
         ensures sound { IsTrue (is_sound self.old) → IsTrue (is_sound self.new) }
         ensures cause { GotHasCause self.old.faults self.new.faults result }
-        ensures bytes { Reads self.old.rest self.new.rest into.new result }
+        ensures bytes { Gets self.old.rest self.new.rest into.new result }
         ensures never { IsTrue (is_sound self.old) → IsSome self.old.rest → result ≢ Got.Failed }
     {
         if !count_call(&mut self.calls, self.failing.as_slice()) {

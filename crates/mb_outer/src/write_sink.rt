@@ -75,7 +75,8 @@ enum Stop {
 // Writes the bytes, one write a turn.
 fn write_all<W: Write>(writer: &mut W, bytes: &[u8]) -> Result<(), Stop>
     ensures all { OnOk result (Appends (W.contents writer.old) (W.contents writer.new) bytes.now) }
-    ensures front { OnErr result ((n : ℕ) × Appends (W.contents writer.old) (W.contents writer.new) (take n bytes.now)) }
+    ensures front { OnErr result ((n : ℕ)
+        × Appends (W.contents writer.old) (W.contents writer.new) (take n bytes.now)) }
     ensures turns { result ≡ Err Stop.Turns → 2_000_000 < length bytes.now }
 {
     let mut done = 0;

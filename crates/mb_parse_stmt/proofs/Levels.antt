@@ -22,7 +22,7 @@ use Rattle.mb_parse_stmt.specs.declared.machine.Stop.TheVariants as st
 use Rattle.mb_parse_stmt.specs.declared.statements.StatementParser.{StatementParser}
 use Rattle.mb_parse_stmt.specs.declared.parser.Outer.{Outer}
 use Rattle.mb_parse_stmt.specs.machine.Terminals.{terminal_of, terminal_at}
-use Rattle.mb_parse_stmt.specs.machine.Stops.{IsReading, IsWanting, AreAll, NoneStand}
+use Rattle.mb_parse_stmt.specs.machine.Stops.{IsUnderWay, IsWanting, AreAll, NoneStand}
 use Rattle.mb_parse_stmt.specs.machine.Levels.{Needs, Stacked, outermost, inside, AtLevel, InExpression, NoScript}
 use Rattle.mb_tree.specs.machine.Stack.{laid}
 use Rattle.mb_parse_stmt.proofs.Tokens.{means}
@@ -135,7 +135,7 @@ braced_within {ts = ts} (braced {i = i} g o k e) = let w = brace_within ts i o i
 pub waiting_within : {ts : List Spanned} {level : Level} {start : ℕ} {base : List Shape} {ds : List ℕ} (q : ExprParser) {shapes : List Shape} → IsWaiting ts level start base ds q shapes → next_place q ≤ length ts
 waiting_within q w = braced_within w.0.progress.sound
 
-pub level_begun : {ts : List Spanned} {outers : List Outer} {q : StatementParser} {x : ExprParser} {before shapes : List Shape} (h : InExpression ts outers q x before) (outer : Outer) (outers' : List Outer) (ds : List ℕ) (at : ℕ) (inner : StatementParser) → outer.statements ≡ q → IsWaiting ts h.level q.at h.out ds outer.parser shapes → Needs ts h.level q.at at → next_place outer.parser ≡ at → outers' ≡ outers ++ outer ∷ [] → inner.stop ≡ st.Brace → IsReading ts at shapes inner shapes → AtLevel ts outers' inner shapes
+pub level_begun : {ts : List Spanned} {outers : List Outer} {q : StatementParser} {x : ExprParser} {before shapes : List Shape} (h : InExpression ts outers q x before) (outer : Outer) (outers' : List Outer) (ds : List ℕ) (at : ℕ) (inner : StatementParser) → outer.statements ≡ q → IsWaiting ts h.level q.at h.out ds outer.parser shapes → Needs ts h.level q.at at → next_place outer.parser ≡ at → outers' ≡ outers ++ outer ∷ [] → inner.stop ≡ st.Brace → IsUnderWay ts at shapes inner shapes → AtLevel ts outers' inner shapes
 level_begun {ts = ts} {q = q} {shapes = shapes} h outer outers' ds at inner qe waiting needs pe oe se reading = record {
   os = outer ∷ h.os;
   outers_are = oe ∙ ap (λ x. x ++ outer ∷ []) h.outers_are;
@@ -159,18 +159,18 @@ script_given ts script (Ok tree) s h = (script, s, h.0, h.1)
 script_given ts script (Err e) s h = tt
 
 -- the script begins
-pub level_first : (ts : List Spanned) (outers : List Outer) (q : StatementParser) (now : List Shape) → outers ≡ [] → q.stop ≡ st.End → now ≡ [] → IsReading ts 0 [] q [] → AtLevel ts outers q now
+pub level_first : (ts : List Spanned) (outers : List Outer) (q : StatementParser) (now : List Shape) → outers ≡ [] → q.stop ≡ st.End → now ≡ [] → IsUnderWay ts 0 [] q [] → AtLevel ts outers q now
 level_first ts outers q now oe se e reading = record {
   os = [];
   outers_are = oe;
   start = 0;
   base = [];
   stacked = subst (λ s. Stacked ts [] s 0 []) (sym se) outermost;
-  reading = subst (λ x. IsReading ts 0 [] q x) (sym e) reading;
+  reading = subst (λ x. IsUnderWay ts 0 [] q x) (sym e) reading;
 }
 
 -- an expression of the innermost level ends
-pub level_read : {ts : List Spanned} {outers : List Outer} {q : StatementParser} {x : ExprParser} {before now : List Shape} (h : InExpression ts outers q x before) (q' : StatementParser) → q'.stop ≡ q.stop → IsReading ts h.start h.base q' now → AtLevel ts outers q' now
+pub level_read : {ts : List Spanned} {outers : List Outer} {q : StatementParser} {x : ExprParser} {before now : List Shape} (h : InExpression ts outers q x before) (q' : StatementParser) → q'.stop ≡ q.stop → IsUnderWay ts h.start h.base q' now → AtLevel ts outers q' now
 level_read {ts = ts} h q' se reading = record {
   os = h.os;
   outers_are = h.outers_are;

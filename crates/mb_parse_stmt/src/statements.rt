@@ -6,7 +6,7 @@ ghost use Rattle.mb_parse_expr.specs.Pauses.{IsTree};
 ghost use Rattle.mb_parse_stmt.specs.machine.Terminals as terminals;
 ghost use Rattle.mb_tree.specs.machine.Stack.{top, laid};
 ghost use Rattle.mb_parse_stmt.specs.machine.Machine as spec;
-ghost use Rattle.mb_parse_stmt.specs.machine.Stops.{IsReading, IsWanting, Tells, Moves, taken};
+ghost use Rattle.mb_parse_stmt.specs.machine.Stops.{IsUnderWay, IsWanting, TellsStep, StepMoves, taken};
 
 use crate::machine::{Frame, Holder, Mode, Move, Stop, View, next_move};
 use crate::terminal::{Terminal, classify};
@@ -97,7 +97,7 @@ impl StatementParser {
         ensures place { IfOk result (λ parser. (parser.at ≡ at) × (taken parser.mode ≡ 0)) }
         ensures kept { IfOk result (λ parser. parser.stop ≡ stop) }
         ensures reading { (ts : List Spanned) (base : List Shape) → at ≤ length ts
-            → IfOk result (λ parser. IsReading ts at base parser base) }
+            → IfOk result (λ parser. IsUnderWay ts at base parser base) }
     {
         let mut frames = Vec::new(alloc);
         frames.push(Frame::Statements(Holder::Top, 0))?;
@@ -119,12 +119,12 @@ impl StatementParser {
     ) -> Result<Step, NoMemory>
         requires few { length tokens.now ≤ 1_048_576 }
         requires reading { (start : ℕ) × (base : List Shape)
-            × IsReading tokens.now start base self.old (shapes tree.old) }
+            × IsUnderWay tokens.now start base self.old (shapes tree.old) }
         ensures answers { (start : ℕ) (base : List Shape)
-            → IsReading tokens.now start base self.old (shapes tree.old)
-            → IfOk result (Tells tokens.now start base self.new (shapes tree.new)) }
+            → IsUnderWay tokens.now start base self.old (shapes tree.old)
+            → IfOk result (TellsStep tokens.now start base self.new (shapes tree.new)) }
         ensures kept { self.new.stop ≡ self.old.stop }
-        ensures forward { IfOk result (Moves self.old self.new) }
+        ensures forward { IfOk result (StepMoves self.old self.new) }
     {
         if tree.nodes.len() > MOST_NODES {
             return Err(NoMemory);
@@ -167,7 +167,7 @@ impl StatementParser {
         ensures kept { self.new.stop ≡ self.old.stop }
         ensures reading { (ts : List Spanned) (start : ℕ) (base out now : List Shape) (level : Level) (ds : List ℕ) →
             IsWanting ts start base level self.old out → IsTree ts level self.old.at ds out now next root
-            → OnOk result (IsReading ts start base self.new now) }
+            → OnOk result (IsUnderWay ts start base self.new now) }
     {
         self.operands.push(root)?;
         self.mode = Mode::Behind;

@@ -17,12 +17,12 @@ use Rattle.mb_scope.specs.declared.jump.Jump.TheVariants as j
 use Rattle.mb_scope.specs.declared.target.TargetType.{TargetType}
 use Rattle.mb_scope.specs.declared.target.TargetType.TheVariants.{Simple, Grouped, Invalid}
 use Rattle.mb_scope.specs.declared.target.Use.{Use}
-use Rattle.mb_scope.specs.declared.target.Use.TheVariants.{Assigns, Deletes, Reads}
+use Rattle.mb_scope.specs.declared.target.Use.TheVariants.{Assigns, Deletes, Plain}
 use Rattle.mb_scope.specs.Kinds.{is_function, is_loop, jump_of, target_type_of, use_of, is_property, group_part, operand_of}
 use Rattle.mb_scope.specs.Bindings.{together, Repeats, IsTwice}
 use Rattle.mb_scope.specs.Jumps.{InFunction, InLoop, Strays, IsStray}
 use Rattle.mb_scope.specs.Targets.{IsTarget, IsProperty, MissesAt, MissesFirst, IsBadTarget}
-use Rattle.mb_scope.specs.Faults.{Breaks, IsRight, place_of, IsLeast}
+use Rattle.mb_scope.specs.Faults.{Breaks, IsRight, fault_place, IsLeast}
 use Rattle.mb_scope.proofs.Lists.{among_or}
 use Rattle.mb_scope.proofs.Knowing.{PartsFirst, part_before, IsPassedOn, GivesFunction, GivesLoop, function_passed, loop_passed}
 use Rattle.mb_scope.proofs.Picking.{group_first}
@@ -211,7 +211,7 @@ misses : (shapes : List Shape) → PartsFirst shapes → (usage : Use) (o : Opti
 misses shapes ordered usage None = inr (λ h. h)
 misses shapes ordered Assigns (Some id) = never (IsTarget shapes id) (target shapes ordered (suc id.0) id (omega arith))
 misses shapes ordered Deletes (Some id) = never (IsProperty shapes id) (property shapes id)
-misses shapes ordered Reads (Some id) = inr (λ h. h)
+misses shapes ordered Plain (Some id) = inr (λ h. h)
 
 bad_target : (shapes : List Shape) → PartsFirst shapes → (id : NodeId) → Decided (IsBadTarget shapes id)
 bad_target shapes ordered id = at (slice_get shapes id.0) refl
@@ -225,7 +225,7 @@ bad_target shapes ordered id = at (slice_get shapes id.0) refl
 
 -- a fault at a place
 abbrev FaultAt : List Shape → ℕ → Type 0
-FaultAt shapes i = (fault : NameFault) × Breaks shapes fault × (place_of fault ≡ i)
+FaultAt shapes i = (fault : NameFault) × Breaks shapes fault × (fault_place fault ≡ i)
 
 fault_at : (shapes : List Shape) → PartsFirst shapes → (i : ℕ) → Decided (FaultAt shapes i)
 fault_at shapes ordered i = same
@@ -235,7 +235,7 @@ fault_at shapes ordered i = same
     (λ w. of_fault w.0 w.1 w.2)
     (one (IsTwice shapes (id_of i) ⊎ IsStray shapes (id_of i)) (IsBadTarget shapes (id_of i)) (one (IsTwice shapes (id_of i)) (IsStray shapes (id_of i)) (twice shapes (id_of i)) (stray shapes ordered (id_of i))) (bad_target shapes ordered (id_of i)))
   where
-    of_fault : (fault : NameFault) → Breaks shapes fault → place_of fault ≡ i → (IsTwice shapes (id_of i) ⊎ IsStray shapes (id_of i)) ⊎ IsBadTarget shapes (id_of i)
+    of_fault : (fault : NameFault) → Breaks shapes fault → fault_place fault ≡ i → (IsTwice shapes (id_of i) ⊎ IsStray shapes (id_of i)) ⊎ IsBadTarget shapes (id_of i)
     of_fault (Twice id) b e = inl (inl (subst (IsTwice shapes) (ap (λ n. id_of n) e) b))
     of_fault (Stray id) b e = inl (inr (subst (IsStray shapes) (ap (λ n. id_of n) e) b))
     of_fault (BadTarget id) b e = inr (subst (IsBadTarget shapes) (ap (λ n. id_of n) e) b)
@@ -246,13 +246,13 @@ right_or_least shapes w = ⊎_elim
     (λ f.
     let fault = f.holds.0 in
     let broken : Breaks shapes fault = f.holds.1 in
-    let here : place_of fault ≡ f.at = f.holds.2 in
+    let here : fault_place fault ≡ f.at = f.holds.2 in
     inr (
       fault,
       record {
         broken = broken;
-        least = λ other b. let le : f.at ≤ place_of other = f.first (place_of other) (other, b, refl) in omega arith;
+        least = λ other b. let le : f.at ≤ fault_place other = f.first (fault_place other) (other, b, refl) in omega arith;
       },
     ))
-    (λ none. inl (λ fault b. none (place_of fault) (fault_within shapes fault b) (fault, b, refl)))
+    (λ none. inl (λ fault b. none (fault_place fault) (fault_within shapes fault b) (fault, b, refl)))
     (search_below (length shapes) (FaultAt shapes) (λ i lt. fault_at shapes (parts_first w) i))

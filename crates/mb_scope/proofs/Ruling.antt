@@ -19,7 +19,7 @@ use Rattle.mb_scope.specs.Kinds.{declares_of, is_decl, jump_of, use_of, operand_
 use Rattle.mb_scope.specs.Bindings.{own, decl_of, decl_binding, bound_as, bound_at, bound_by, bindings_of, parts_in, catch_block, in_block, together, IsTwice}
 use Rattle.mb_scope.specs.Jumps.{Strays, IsStray}
 use Rattle.mb_scope.specs.Targets.{MissesAt, IsBadTarget}
-use Rattle.mb_scope.specs.Faults.{Breaks, IsRight, place_of, IsLeast}
+use Rattle.mb_scope.specs.Faults.{Breaks, IsRight, fault_place, IsLeast}
 use Rattle.mb_scope.specs.machine.FirstFault.{first_fault_of}
 use Rattle.mb_scope.proofs.First.{first_or}
 use Rattle.mb_scope.proofs.Lists.{Each, each_append, each_flat_map, each_at}
@@ -144,7 +144,7 @@ same_id a b e = ap (λ (n : ℕ). made n) e
     made : ℕ → NodeId
     made n = record { 0 = n }
 
-pub same_fault : (shapes : List Shape) (e f : NameFault) → Breaks shapes e → Breaks shapes f → place_of e ≡ place_of f → e ≡ f
+pub same_fault : (shapes : List Shape) (e f : NameFault) → Breaks shapes e → Breaks shapes f → fault_place e ≡ fault_place f → e ≡ f
 same_fault shapes (Twice a) (Twice b) x y h = ap Twice (same_id a b h)
 same_fault shapes (Stray a) (Stray b) x y h = ap Stray (same_id a b h)
 same_fault shapes (BadTarget a) (BadTarget b) x y h = ap BadTarget (same_id a b h)
@@ -159,8 +159,8 @@ same_fault shapes e NoMemory x y h = absurd y
 
 pub one_least_fault : (shapes : List Shape) (e f : NameFault) → IsLeast shapes e → IsLeast shapes f → e ≡ f
 one_least_fault shapes e f x y =
-    let a : place_of e ≤ place_of f = x.least f y.broken in
-    let b : place_of f ≤ place_of e = y.least e x.broken in
+    let a : fault_place e ≤ fault_place f = x.least f y.broken in
+    let b : fault_place f ≤ fault_place e = y.least e x.broken in
     same_fault shapes e f x.broken y.broken (omega arith)
 
 -- the first of the nodes that break the rules is the least fault
@@ -177,7 +177,7 @@ abbrev TargetOnly : List Shape → NameFault → Type 0
 TargetOnly shapes (BadTarget id) = IsBadTarget shapes id
 TargetOnly shapes _ = ⊥
 
-first_twice : (shapes : List Shape) (o : Option NodeId) → IsFirst (λ id. id.0) (IsTwice shapes) o → IsFirst place_of (TwiceOnly shapes) (option_map Twice o)
+first_twice : (shapes : List Shape) (o : Option NodeId) → IsFirst (λ id. id.0) (IsTwice shapes) o → IsFirst fault_place (TwiceOnly shapes) (option_map Twice o)
 first_twice shapes None h = each
   where
     each : (f : NameFault) → TwiceOnly shapes f → ⊥
@@ -187,13 +187,13 @@ first_twice shapes None h = each
     each NoMemory t = t
 first_twice shapes (Some x) h = (h.0, each)
   where
-    each : (f : NameFault) → TwiceOnly shapes f → x.0 ≤ place_of f
+    each : (f : NameFault) → TwiceOnly shapes f → x.0 ≤ fault_place f
     each (Twice id) t = h.1 id t
     each (Stray id) t = absurd t
     each (BadTarget id) t = absurd t
     each NoMemory t = absurd t
 
-first_stray : (shapes : List Shape) (o : Option NodeId) → IsFirst (λ id. id.0) (IsStray shapes) o → IsFirst place_of (StrayOnly shapes) (option_map Stray o)
+first_stray : (shapes : List Shape) (o : Option NodeId) → IsFirst (λ id. id.0) (IsStray shapes) o → IsFirst fault_place (StrayOnly shapes) (option_map Stray o)
 first_stray shapes None h = each
   where
     each : (f : NameFault) → StrayOnly shapes f → ⊥
@@ -203,13 +203,13 @@ first_stray shapes None h = each
     each NoMemory t = t
 first_stray shapes (Some x) h = (h.0, each)
   where
-    each : (f : NameFault) → StrayOnly shapes f → x.0 ≤ place_of f
+    each : (f : NameFault) → StrayOnly shapes f → x.0 ≤ fault_place f
     each (Stray id) t = h.1 id t
     each (Twice id) t = absurd t
     each (BadTarget id) t = absurd t
     each NoMemory t = absurd t
 
-first_target : (shapes : List Shape) (o : Option NodeId) → IsFirst (λ id. id.0) (IsBadTarget shapes) o → IsFirst place_of (TargetOnly shapes) (option_map BadTarget o)
+first_target : (shapes : List Shape) (o : Option NodeId) → IsFirst (λ id. id.0) (IsBadTarget shapes) o → IsFirst fault_place (TargetOnly shapes) (option_map BadTarget o)
 first_target shapes None h = each
   where
     each : (f : NameFault) → TargetOnly shapes f → ⊥
@@ -219,7 +219,7 @@ first_target shapes None h = each
     each NoMemory t = t
 first_target shapes (Some x) h = (h.0, each)
   where
-    each : (f : NameFault) → TargetOnly shapes f → x.0 ≤ place_of f
+    each : (f : NameFault) → TargetOnly shapes f → x.0 ≤ fault_place f
     each (BadTarget id) t = h.1 id t
     each (Stray id) t = absurd t
     each (Twice id) t = absurd t
@@ -246,17 +246,17 @@ to_one shapes (Stray id) t = inl (inr t)
 to_one shapes (BadTarget id) t = inr t
 to_one shapes NoMemory t = absurd t
 
-pub first_of_all : (shapes : List Shape) (a b c : Option NodeId) → IsFirst (λ id. id.0) (IsTwice shapes) a → IsFirst (λ id. id.0) (IsStray shapes) b → IsFirst (λ id. id.0) (IsBadTarget shapes) c → IsFirst place_of (Breaks shapes) (first_fault_of a b c)
+pub first_of_all : (shapes : List Shape) (a b c : Option NodeId) → IsFirst (λ id. id.0) (IsTwice shapes) a → IsFirst (λ id. id.0) (IsStray shapes) b → IsFirst (λ id. id.0) (IsBadTarget shapes) c → IsFirst fault_place (Breaks shapes) (first_fault_of a b c)
 first_of_all shapes a b c x y z =
-    first_or place_of (Either shapes) (TargetOnly shapes) (Breaks shapes) (sooner place_of (option_map Twice a) (option_map Stray b)) (option_map BadTarget c) (from_either shapes) (from_target shapes) (to_one shapes)
-    (first_or place_of (TwiceOnly shapes) (StrayOnly shapes) (Either shapes) (option_map Twice a) (option_map Stray b) (λ f. inl) (λ f. inr) (λ f h. h) (first_twice shapes a x) (first_stray shapes b y))
+    first_or fault_place (Either shapes) (TargetOnly shapes) (Breaks shapes) (sooner fault_place (option_map Twice a) (option_map Stray b)) (option_map BadTarget c) (from_either shapes) (from_target shapes) (to_one shapes)
+    (first_or fault_place (TwiceOnly shapes) (StrayOnly shapes) (Either shapes) (option_map Twice a) (option_map Stray b) (λ f. inl) (λ f. inr) (λ f h. h) (first_twice shapes a x) (first_stray shapes b y))
     (first_target shapes c z)
 
-pub right_from_first : (shapes : List Shape) (o : Option NameFault) → IsFirst place_of (Breaks shapes) o → o ≡ None → IsRight shapes
+pub right_from_first : (shapes : List Shape) (o : Option NameFault) → IsFirst fault_place (Breaks shapes) o → o ≡ None → IsRight shapes
 right_from_first shapes None h e = h
 right_from_first shapes (Some f) h e = cc
 
-pub least_from_first : (shapes : List Shape) (o : Option NameFault) (f : NameFault) → IsFirst place_of (Breaks shapes) o → o ≡ Some f → IsLeast shapes f
+pub least_from_first : (shapes : List Shape) (o : Option NameFault) (f : NameFault) → IsFirst fault_place (Breaks shapes) o → o ≡ Some f → IsLeast shapes f
 least_from_first shapes None f h e = cc
 least_from_first shapes (Some g) f h e =
     let same : g ≡ f = cc in
@@ -269,7 +269,7 @@ mapped f (Some x) None h = absurd h
 mapped f (Some x) (Some y) h = ap Some h
 
 -- what breaks a rule is a node
-pub fault_within : (shapes : List Shape) (f : NameFault) → Breaks shapes f → place_of f < length shapes
+pub fault_within : (shapes : List Shape) (f : NameFault) → Breaks shapes f → fault_place f < length shapes
 fault_within shapes (Twice id) b = let r = twice_ruled shapes id b in slice_get_within shapes id.0 r.node r.is
 fault_within shapes (Stray id) b = slice_get_within shapes id.0 b.node b.is
 fault_within shapes (BadTarget id) b = slice_get_within shapes id.0 b.node b.is

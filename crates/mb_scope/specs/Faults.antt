@@ -19,13 +19,13 @@ Breaks shapes NoMemory = ⊥
 abbrev pub IsRight : List Shape → Type 0
 IsRight shapes = (fault : NameFault) → Breaks shapes fault → ⊥
 
-abbrev pub place_of : NameFault → ℕ
-place_of (Twice id) = id.0
-place_of (Stray id) = id.0
-place_of (BadTarget id) = id.0
-place_of NoMemory = 0
+abbrev pub fault_place : NameFault → ℕ
+fault_place (Twice id) = id.0
+fault_place (Stray id) = id.0
+fault_place (BadTarget id) = id.0
+fault_place NoMemory = 0
 
 -- the first node that breaks a rule
 pub record IsLeast (shapes : List Shape) (fault : NameFault) : Type 0 where
   pub broken : Breaks shapes fault
-  pub least : (other : NameFault) → Breaks shapes other → place_of fault ≤ place_of other
+  pub least : (other : NameFault) → Breaks shapes other → fault_place fault ≤ fault_place other

@@ -11,7 +11,7 @@ use Rattle.mb_scope.specs.declared.jump.Jump.TheVariants as j
 use Rattle.mb_scope.specs.declared.target.TargetType.{TargetType}
 use Rattle.mb_scope.specs.declared.target.TargetType.TheVariants.{Simple, Grouped, Invalid}
 use Rattle.mb_scope.specs.declared.target.Use.{Use}
-use Rattle.mb_scope.specs.declared.target.Use.TheVariants.{Assigns, Deletes, Reads}
+use Rattle.mb_scope.specs.declared.target.Use.TheVariants.{Assigns, Deletes, Plain}
 
 -- names (ECMA-262, 8.2)
 
@@ -75,7 +75,7 @@ use_of k.Assign = Assigns
 use_of (k.Compound _) = Assigns
 use_of (k.Update _ _) = Assigns
 use_of (k.Unary s.Delete) = Deletes
-use_of _ = Reads
+use_of _ = Plain
 
 abbrev pub is_property : Kind → Bool
 is_property k.Member = true

@@ -4,7 +4,7 @@ use Rattle.mb_base.specs.declared.value.NodeId.{NodeId}
 use Rattle.mb_tree.specs.Roses.{Shape}
 use Rattle.mb_scope.specs.declared.target.TargetType.TheVariants.{Simple, Grouped}
 use Rattle.mb_scope.specs.declared.target.Use.{Use}
-use Rattle.mb_scope.specs.declared.target.Use.TheVariants.{Assigns, Deletes, Reads}
+use Rattle.mb_scope.specs.declared.target.Use.TheVariants.{Assigns, Deletes, Plain}
 use Rattle.mb_scope.specs.Kinds.{target_type_of, use_of, is_property, group_part, operand_of}
 
 -- the node at a place
@@ -34,7 +34,7 @@ pub record IsProperty (shapes : List Shape) (id : NodeId) : Type 0 where
 abbrev pub Misses : List Shape → Use → NodeId → Type 0
 Misses shapes Assigns operand = ¬ IsTarget shapes operand
 Misses shapes Deletes operand = ¬ IsProperty shapes operand
-Misses shapes Reads operand = ⊥
+Misses shapes Plain operand = ⊥
 
 abbrev pub MissesAt : List Shape → Use → Option NodeId → Type 0
 MissesAt shapes usage None = ⊥

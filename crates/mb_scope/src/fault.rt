@@ -1,7 +1,7 @@
 // What breaks a rule, and which stands first.
 ghost use Rattle.std.specs.Prelude.{◌≡◌};
 ghost use Rattle.mb_scope.specs.machine.First.{sooner};
-ghost use Rattle.mb_scope.specs.Faults.{place_of};
+ghost use Rattle.mb_scope.specs.Faults.{fault_place};
 ghost use Rattle.mb_scope.specs.machine.FirstFault.{first_fault_of};
 
 use mb_base::{NoMemory, NodeId};
@@ -47,7 +47,7 @@ pub fn first_of(a: Option<NodeId>, b: Option<NodeId>) -> Option<NodeId>
 
 // The place of a fault's node, 0 where memory ran out.
 fn place(fault: NameFault) -> u32
-    ensures { result ≡ place_of fault }
+    ensures { result ≡ fault_place fault }
 {
     match fault {
         NameFault::Twice { node } | NameFault::Stray { node } | NameFault::BadTarget { node } =>
@@ -58,7 +58,7 @@ fn place(fault: NameFault) -> u32
 
 // The first of two faults.
 fn sooner_fault(a: Option<NameFault>, b: Option<NameFault>) -> Option<NameFault>
-    ensures { result ≡ sooner place_of a b }
+    ensures { result ≡ sooner fault_place a b }
 {
     match (a, b) {
         (Some(first), Some(second)) => Some(if place(second) < place(first) {

@@ -26,7 +26,7 @@ pub enum TargetType {
 pub enum Use {
     Assigns,
     Deletes,
-    Reads,
+    Plain,
 }
 
 impl TargetType {
@@ -48,7 +48,7 @@ impl Use {
         match kind {
             Kind::Assign | Kind::Compound(_) | Kind::Update { .. } => Use::Assigns,
             Kind::Unary(Sign::Delete) => Use::Deletes,
-            _ => Use::Reads,
+            _ => Use::Plain,
         }
     }
 }
@@ -125,7 +125,7 @@ fn misses(tree: &Tree, usage: Use, operand: NodeId) -> bool
     match usage {
         Use::Assigns => !can_be_assigned(tree, operand),
         Use::Deletes => !is_property(tree.nodes[operand.0 as usize].kind),
-        Use::Reads => false,
+        Use::Plain => false,
     }
 }
 

@@ -37,7 +37,8 @@ pub fn an_index_is_of_its_decimal_text()
 // The number that the units write, if each is a digit.
 fn number(units: &[u16]) -> Option<u64>
     requires { length units.now ≤ MOST_DIGITS }
-    ensures { MatchOption result (¬ (AreDigits units.now)) (λ n. AreDigits units.now × (n ≡ digits_value 10 units.now)) }
+    ensures { MatchOption result (¬ (AreDigits units.now)) (λ n. AreDigits units.now
+        × (n ≡ digits_value 10 units.now)) }
 {
     let mut n = 0;
     for unit in units {

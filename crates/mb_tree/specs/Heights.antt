@@ -20,7 +20,8 @@ pub data IsWhole : List Shape → Type 0 where
 -- this, this()
 abbrev pub a_call : Rose
 a_call =
-    node (bare k.Seq) (more (node (bare k.This) none) (more (node (bare k.Call) (more (node (bare k.This) none) none)) none))
+    let this = node (bare k.This) none in
+    node (bare k.Seq) (more this (more (node (bare k.Call) (more this none)) none))
 
 three_high : height_of a_call ≡ 3
 three_high = refl

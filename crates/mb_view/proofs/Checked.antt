@@ -4,14 +4,14 @@ use Rattle.std.specs.List.{AllByRecursion, list_any}
 use Rattle.mb_desc.specs.declared.descriptor.Desc.{Desc}
 use Rattle.mb_desc.specs.declared.descriptor.Full.{Full}
 use Rattle.mb_desc.specs.declared.descriptor.Full.TheVariants.{Datum, Accessor}
-use Rattle.mb_desc.specs.Descriptors.{is_configurable, is_enumerable, is_accessor_descriptor, is_data_descriptor, descriptor_of}
+use Rattle.mb_desc.specs.Descriptors.{is_configurable, is_enumerable, is_accessor_descriptor, is_data_descriptor, descriptor_of, denies, asks, is_writable, is_unwritable}
 use Rattle.mb_desc.specs.Validate.{Validate, changes, same_flag}
 use Rattle.mb_desc.proofs.Fixed.{two_false, same_flag-sound}
 use Rattle.mb_desc.specs.View.{View}
 use Rattle.mb_view.specs.Views.{property_of}
 use Rattle.mb_view.specs.Promises.{Content, Anything, Data, Constant, Accessors, Promise, Fact, Closed, Fixed, Absent, Only, Prototype, Agrees, KeepsContent, Keeps, Holds}
-use Rattle.mb_view.specs.Entries.{Deed, GetPrototypeOf, SetPrototypeOf, IsExtensible, PreventExtensions, GetOwnProperty, DefineOwnProperty, HasProperty, Get, Set, Delete, OwnPropertyKeys, GivesOneKind, denies, asks, fact_if, content_of, promise_of, content_given, promise_given, tells, tells_of_closed, differs, content_differs, promise_differs, get_differs, set_differs, contradicts_closed, contradicts_fixed, contradicts_absent, contradicts_only, contradicts_prototype, contradicts}
-use Rattle.mb_view.specs.Passing.{is_writable, is_constant, AllowsSaid, AllowsDefined, AllowsGot, AllowsSet, MayLack, Passes}
+use Rattle.mb_view.specs.Entries.{Deed, GetPrototypeOf, SetPrototypeOf, IsExtensible, PreventExtensions, GetOwnProperty, DefineOwnProperty, HasProperty, Get, Set, Delete, OwnPropertyKeys, GivesOneKind, fact_if, content_of, promise_of, content_given, promise_given, tells, tells_of_closed, differs, content_differs, promise_differs, get_differs, set_differs, contradicts_closed, contradicts_fixed, contradicts_absent, contradicts_only, contradicts_prototype, contradicts}
+use Rattle.mb_view.specs.Passing.{AllowsSaid, AllowsDefined, AllowsGot, AllowsSet, MayLack, Passes}
 use Rattle.mb_view.proofs.Compatible.{IsCompatible, accepted-compatible}
 use Rattle.mb_view.proofs.Lists.{none-from_All}
 use Rattle.mb_view.proofs.Walks.{members, All-map}
@@ -207,7 +207,7 @@ module _ {K V : Type 0} (same_key : K → K → Bool) (key_sound : (x y : K) →
       by true t = sym (sound x real t)
       by false t = absurd (let no : true ≡ false = rw t at h in cc)
 
-  said-content : (property said : Full V) → IsCompatible same property (descriptor_of said) → (is_constant said ≡ true → is_writable property ≡ false) → KeepsContent (content_of said) property
+  said-content : (property said : Full V) → IsCompatible same property (descriptor_of said) → (is_unwritable said ≡ true → is_writable property ≡ false) → KeepsContent (content_of said) property
   said-content (Datum v w e c) (Datum x true e' c') h k = tt
   said-content (Datum v w e c) (Datum x false e' c') h k =
       let u : w ≡ false = k refl in

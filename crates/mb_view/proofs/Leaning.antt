@@ -3,14 +3,14 @@ use Rattle.std.proofs.Common.{◌≡◌, Bool, true, false, not, [], ◌∷◌, 
 use Rattle.std.specs.List.{AllByRecursion}
 use Rattle.mb_desc.specs.declared.descriptor.Desc.{Desc}
 use Rattle.mb_desc.specs.declared.descriptor.Full.{Full}
-use Rattle.mb_desc.specs.Descriptors.{is_configurable, descriptor_of}
+use Rattle.mb_desc.specs.Descriptors.{is_configurable, descriptor_of, denies}
 use Rattle.mb_desc.specs.Validate.{Validate}
 use Rattle.mb_desc.specs.Laws.{KeepsFixed}
 use Rattle.mb_desc.specs.View.{View}
 use Rattle.mb_view.specs.Views.{property_of, HasDistinctKeys, IsFixed, KeepsFacts}
 use Rattle.mb_view.specs.Changes.{Define, Remove, changed, changed_by, AreAllowed}
 use Rattle.mb_view.specs.Following.{brought_by}
-use Rattle.mb_view.specs.Entries.{Deed, GetPrototypeOf, SetPrototypeOf, IsExtensible, PreventExtensions as PreventExtensionsOf, GetOwnProperty, DefineOwnProperty, HasProperty, Get, Set, Delete, OwnPropertyKeys, Silent, denies, fact_if, promise_of, promise_given, tells, tells_of_closed}
+use Rattle.mb_view.specs.Entries.{Deed, GetPrototypeOf, SetPrototypeOf, IsExtensible, PreventExtensions as PreventExtensionsOf, GetOwnProperty, DefineOwnProperty, HasProperty, Get, Set, Delete, OwnPropertyKeys, Silent, fact_if, promise_of, promise_given, tells, tells_of_closed}
 use Rattle.mb_view.specs.Promises.{Promise, Fixed, Holds}
 use Rattle.mb_view.specs.Passing.{AllowsSaid, AllowsDefined, AllowsGot, AllowsSet, MayLack, Passes}
 use Rattle.mb_view.specs.Lean.{definition_if_fixed, replacement, IsLean, followed_key, followed_whole, HasKey, HasWhole, HasFollowed}

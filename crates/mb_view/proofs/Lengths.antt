@@ -4,13 +4,13 @@ use Rattle.std.specs.List.{AllByRecursion, IsDistinct}
 use Rattle.mb_desc.specs.declared.descriptor.Desc.{Desc}
 use Rattle.mb_desc.specs.declared.descriptor.Full.{Full}
 use Rattle.mb_desc.specs.declared.descriptor.Full.TheVariants.{Datum}
-use Rattle.mb_desc.specs.Descriptors.{is_configurable, IsOfOneKind}
+use Rattle.mb_desc.specs.Descriptors.{is_configurable, IsOfOneKind, value_alone}
 use Rattle.mb_desc.specs.Validate.{Validate}
 use Rattle.mb_view.specs.Sublists.{IsSublist}
 use Rattle.mb_desc.specs.View.{View}
 use Rattle.mb_view.specs.Views.{property_of, HasDistinctKeys}
 use Rattle.mb_view.specs.Changes.{Define, Remove, changed, changed_by, AreAllowed}
-use Rattle.mb_view.specs.Arrays.{value_alone, value_and_flag, HasLength, element_defined, up_to_fixed, deleted, length_defined}
+use Rattle.mb_view.specs.Arrays.{value_and_flag, HasLength, element_defined, up_to_fixed, deleted, length_defined}
 use Rattle.mb_view.proofs.Lists.{sublist-skip, distinct-sublist, All-sublist}
 use Rattle.mb_view.proofs.Tables.{lookup-insert, lookup-remove}
 use Rattle.mb_view.proofs.Changing.{changed-distinct}

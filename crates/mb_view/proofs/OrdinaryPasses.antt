@@ -3,12 +3,12 @@ use Rattle.std.proofs.Common.{◌≡◌, Bool, true, false, not, ◌&&◌, Optio
 use Rattle.mb_desc.specs.declared.descriptor.Desc.{Desc}
 use Rattle.mb_desc.specs.declared.descriptor.Full.{Full}
 use Rattle.mb_desc.specs.declared.descriptor.Full.TheVariants.{Datum, Accessor}
-use Rattle.mb_desc.specs.Descriptors.{is_configurable, is_accessor_descriptor, is_data_descriptor, has_no_fields, descriptor_of}
+use Rattle.mb_desc.specs.Descriptors.{is_configurable, is_accessor_descriptor, is_data_descriptor, has_no_fields, descriptor_of, denies, is_writable, is_unwritable}
 use Rattle.mb_desc.specs.Validate.{Validate, Applied, refuses}
 use Rattle.mb_desc.specs.View.{View}
 use Rattle.mb_view.specs.Views.{property_of}
-use Rattle.mb_view.specs.Entries.{Deed, GetPrototypeOf, SetPrototypeOf, IsExtensible, PreventExtensions, GetOwnProperty, DefineOwnProperty, HasProperty, Get, Set, Delete, OwnPropertyKeys, Silent, denies}
-use Rattle.mb_view.specs.Passing.{is_writable, is_constant, AllowsSaid, AllowsDefined, AllowsGot, AllowsSet, MayLack, Passes}
+use Rattle.mb_view.specs.Entries.{Deed, GetPrototypeOf, SetPrototypeOf, IsExtensible, PreventExtensions, GetOwnProperty, DefineOwnProperty, HasProperty, Get, Set, Delete, OwnPropertyKeys, Silent}
+use Rattle.mb_view.specs.Passing.{AllowsSaid, AllowsDefined, AllowsGot, AllowsSet, MayLack, Passes}
 use Rattle.mb_view.specs.Ordinary.{Gets, Sets, IsOrdinary}
 use Rattle.mb_view.proofs.Evolving.{keeps-refl}
 use Rattle.mb_view.proofs.Compatible.{none-from, both-true, not-true}
@@ -32,7 +32,7 @@ module _ {V : Type 0} (same : V → V → Bool) (undefined : V) (value_refl : (x
   self-said : (extensible : Bool) (p : Full V) → AllowsSaid same undefined extensible (Some p) p
   self-said extensible p = (ap is_some (self-accepted extensible p), λ c. (p, refl, c, constant p))
     where
-      constant : (p : Full V) → is_constant p ≡ true → is_writable p ≡ false
+      constant : (p : Full V) → is_unwritable p ≡ true → is_writable p ≡ false
       constant (Datum v true e c) h = absurd (let no : false ≡ true = h in cc)
       constant (Datum v false e c) h = refl
       constant (Accessor g s e c) h = absurd (let no : false ≡ true = h in cc)

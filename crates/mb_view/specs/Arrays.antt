@@ -3,22 +3,12 @@ use Rattle.std.specs.Prelude.{◌≡◌, ℕ, ◌+◌, nat_le, Bool, false, List
 use Rattle.mb_desc.specs.declared.descriptor.Desc.{Desc}
 use Rattle.mb_desc.specs.declared.descriptor.Full.{Full}
 use Rattle.mb_desc.specs.declared.descriptor.Full.TheVariants.{Datum}
-use Rattle.mb_desc.specs.Descriptors.{is_configurable}
+use Rattle.mb_desc.specs.Descriptors.{is_configurable, value_alone}
 use Rattle.mb_desc.specs.View.{View}
 use Rattle.mb_view.specs.Views.{property_of}
 use Rattle.mb_view.specs.Changes.{Change, Define, Remove}
 
--- a descriptor with a value alone; one with a value and a writable flag
-abbrev pub value_alone : {V : Type 0} → V → Desc V
-value_alone value = record {
-  value = Some value;
-  writable = None;
-  get = None;
-  set = None;
-  enumerable = None;
-  configurable = None;
-}
-
+-- a descriptor with a value and a writable flag
 abbrev pub value_and_flag : {V : Type 0} → V → Bool → Desc V
 value_and_flag value writable = record (value_alone value) { writable = Some writable }
 

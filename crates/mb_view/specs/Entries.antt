@@ -1,10 +1,10 @@
 -- What the entries of the trace promise, and what contradicts a promise.
-use Rattle.std.specs.Prelude.{◌≡◌, ℕ, Bool, true, false, not, ◌&&◌, ◌||◌, nat_eq, List, [], ◌∷◌, ◌++◌, take, Option, None, Some, unwrap_or, if◌then◌else◌}
+use Rattle.std.specs.Prelude.{◌≡◌, ℕ, Bool, true, false, not, ◌&&◌, ◌||◌, nat_eq, List, [], ◌∷◌, ◌++◌, take, Option, None, Some, if◌then◌else◌}
 use Rattle.std.specs.List.{AllByRecursion, list_any}
 use Rattle.mb_desc.specs.declared.descriptor.Desc.{Desc}
 use Rattle.mb_desc.specs.declared.descriptor.Full.{Full}
 use Rattle.mb_desc.specs.declared.descriptor.Full.TheVariants.{Datum, Accessor}
-use Rattle.mb_desc.specs.Descriptors.{is_accessor_descriptor, is_data_descriptor, is_enumerable, is_configurable, IsOfOneKind, descriptor_of}
+use Rattle.mb_desc.specs.Descriptors.{denies, asks, is_accessor_descriptor, is_data_descriptor, is_enumerable, is_configurable, IsOfOneKind, descriptor_of}
 use Rattle.mb_desc.specs.Validate.{same_flag}
 use Rattle.mb_view.specs.Promises.{Content, Anything, Data, Constant, Accessors, Promise, Fact, Closed, Fixed, Absent, Only, Prototype}
 
@@ -35,14 +35,6 @@ pub record Entry (K V : Type 0) : Type 0 where
 abbrev pub GivesOneKind : {K V : Type 0} → Deed K V → Type 0
 GivesOneKind (DefineOwnProperty key given answer) = IsOfOneKind given
 GivesOneKind _ = Unit {0}
-
--- the field is there, and false
-abbrev pub denies : Option Bool → Bool
-denies flag = not (unwrap_or flag true)
-
--- the field is there, and true
-abbrev pub asks : Option Bool → Bool
-asks flag = unwrap_or flag false
 
 abbrev pub fact_if : {K V : Type 0} → Bool → Fact K V → List (Fact K V)
 fact_if test fact = if test then fact ∷ [] else []

@@ -4,21 +4,11 @@ use Rattle.std.specs.List.{list_any}
 use Rattle.mb_desc.specs.declared.descriptor.Desc.{Desc}
 use Rattle.mb_desc.specs.declared.descriptor.Full.{Full}
 use Rattle.mb_desc.specs.declared.descriptor.Full.TheVariants.{Datum, Accessor}
-use Rattle.mb_desc.specs.Descriptors.{is_configurable, descriptor_of}
+use Rattle.mb_desc.specs.Descriptors.{is_configurable, is_writable, is_unwritable, descriptor_of, denies}
 use Rattle.mb_desc.specs.Validate.{Validate}
 use Rattle.mb_desc.specs.View.{View}
 use Rattle.mb_view.specs.Views.{property_of, IsFixed, KeepsFacts}
-use Rattle.mb_view.specs.Entries.{Deed, GetPrototypeOf, SetPrototypeOf, IsExtensible, PreventExtensions, GetOwnProperty, DefineOwnProperty, HasProperty, Get, Set, Delete, OwnPropertyKeys, Entry, denies}
-
--- a data property that can be written; one that can't
-abbrev pub is_writable : {V : Type 0} → Full V → Bool
-is_writable (Datum value writable enumerable configurable) = writable
-is_writable (Accessor get set enumerable configurable) = false
-
-abbrev pub is_constant : {V : Type 0} → Full V → Bool
-is_constant (Datum value true enumerable configurable) = false
-is_constant (Datum value false enumerable configurable) = true
-is_constant (Accessor get set enumerable configurable) = false
+use Rattle.mb_view.specs.Entries.{Deed, GetPrototypeOf, SetPrototypeOf, IsExtensible, PreventExtensions, GetOwnProperty, DefineOwnProperty, HasProperty, Get, Set, Delete, OwnPropertyKeys, Entry}
 
 module _ {V : Type 0} (same : V → V → Bool) (undefined : V) where
   -- a property may be answered where it is compatible with the real one; one that isn't configurable needs a real one
@@ -28,7 +18,7 @@ module _ {V : Type 0} (same : V → V → Bool) (undefined : V) where
       (is_some (Validate same undefined extensible real (descriptor_of said)) ≡ true)
       × (is_configurable said ≡ false
       → (property : Full V) × (real ≡ Some property) × (is_configurable property ≡ false)
-      × (is_constant said ≡ true → is_writable property ≡ false))
+      × (is_unwritable said ≡ true → is_writable property ≡ false))
 
   -- a definition may be said to be done
   abbrev pub AllowsDefined : Bool → Option (Full V) → Desc V → Type 0

@@ -29,15 +29,15 @@ options_of Shared = Schedule ∷ Budget ∷ Trace ∷ []
 options_of Check = []
 options_of Load = []
 
-abbrev pub spelled : OptionName → Word
-spelled Policy = codes "--policy"
-spelled Schedule = codes "--schedule"
-spelled Budget = codes "--budget"
-spelled Trace = codes "--trace"
+abbrev pub option_word : OptionName → Word
+option_word Policy = codes "--policy"
+option_word Schedule = codes "--schedule"
+option_word Budget = codes "--budget"
+option_word Trace = codes "--trace"
 
 -- the option with its `=`, before its value
 abbrev pub opening : OptionName → Word
-opening name = spelled name ++ codes "="
+opening name = option_word name ++ codes "="
 
 -- `--trace` takes no value, the others one
 abbrev pub takes_value : OptionName → Bool
@@ -72,7 +72,7 @@ value_behind name word =
 -- an option is spelled whole, alone or before `=` and a value that isn't empty
 abbrev pub role_by : OptionName → Word → Option Role
 role_by name word =
-    if bytes_eq word (spelled name) then Some (alone name)
+    if bytes_eq word (option_word name) then Some (alone name)
     else option_map (attached name) (value_behind name word)
 
 abbrev pub option_role : List OptionName → Word → Role

@@ -1,6 +1,6 @@
 // The commands and their options.
 ghost use Rattle.std.specs.Prelude.{◌≡◌, map};
-ghost use Rattle.mb_words.specs.Words.{command_of, options_of, spelled, opening};
+ghost use Rattle.mb_words.specs.Words.{command_of, options_of, option_word, opening};
 ghost use Rattle.mb_words.specs.Words.{takes_value as value_taken};
 ghost use Rattle.mb_words.specs.machine.Matching.{name_of, fewest as least, most, label, has_option, takes_operands};
 
@@ -117,8 +117,8 @@ impl OptionName {
         }
     }
 
-    pub fn spelled(self) -> &'static str
-        ensures { result.now ≡ spelled self }
+    pub fn option_word(self) -> &'static str
+        ensures { result.now ≡ option_word self }
     {
         match self {
             OptionName::Policy => "--policy",

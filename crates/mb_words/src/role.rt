@@ -61,7 +61,7 @@ fn value_behind<'a>(name: OptionName, word: &'a str) -> Option<&'a str>
 fn role_by<'a>(name: OptionName, word: &'a str) -> Option<Role<'a>>
     ensures { option_map role_meant result ≡ role_of_one name word.entry.now }
 {
-    if word == name.spelled() {
+    if word == name.option_word() {
         return Some(alone(name));
     }
     match value_behind(name, word) {

@@ -42,7 +42,7 @@ fn add_option(
         OptionName::Budget => chosen.slots.budget,
         OptionName::Trace => {
             if chosen.slots.traced {
-                return add(alloc, words, name.spelled());
+                return add(alloc, words, name.option_word());
             }
             return Ok(());
         }

@@ -1,6 +1,6 @@
 -- Texts are added to a world.
 use Rattle.std.proofs.Common.{◌≡◌, ℕ, ◌<◌, ◌≤◌, ◌+◌, List, [], ◌∷◌, ◌++◌, length, Bool, true, false, nat_lt, arith, length-append, refl, sym, ◌∙◌, ap, get_or, filter, fold, cond}
-use Rattle.std.specs.Prelude.{All}
+use Rattle.std.specs.Prelude.{All, Option, Some, None}
 use Rattle.std.specs.List.{flat_map}
 use Rattle.std.proofs.Math.ListN.{get_or-append}
 use Rattle.std.proofs.lemmas.List.{append-nil}
@@ -18,7 +18,6 @@ use Rattle.mb_world.specs.declared.entry.Seen.TheVariants as s
 use Rattle.mb_world.specs.declared.entry.Said.{Said}
 use Rattle.mb_world.specs.declared.entry.Said.TheVariants as said
 use Rattle.mb_world.specs.declared.roles.Role.{Role}
-use Rattle.std.specs.Prelude.{Option, Some, None}
 use Rattle.mb_world.specs.Data.{Data, with_texts}
 use Rattle.mb_world.specs.Long.{key_texts, seen_texts, texts_if, said_texts, entry_texts, is_long, long_texts, same_id}
 use Rattle.mb_world.specs.Ids.{HasItsIds, Hold, TextIn, KeyIn, SeenIn, SaidIn, EntryIn, Maybe}

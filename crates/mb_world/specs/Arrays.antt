@@ -5,7 +5,8 @@ use Rattle.mb_desc.specs.declared.descriptor.Full.TheVariants.{Datum}
 use Rattle.mb_world.specs.declared.cell.ErrorKind.TheVariants.{TypeError, RangeError}
 use Rattle.mb_world.specs.Value.{Val, Whole, decimal, whole_of}
 use Rattle.mb_world.specs.Key.{PropertyKey, Named, same_key, index_of_key, indices, keep_if}
-use Rattle.mb_world.specs.Property.{is_fixed, is_writable, property_is, open_property, desc_of, denies}
+use Rattle.mb_desc.specs.Descriptors.{is_fixed, is_writable, property_is, descriptor_of, denies}
+use Rattle.mb_world.specs.Property.{open_property}
 use Rattle.mb_world.specs.Graph.{Thing, Kind, Array, Property}
 use Rattle.mb_world.specs.Objects.{find_property, put_property, remove_property, property_keys, own_property, with_property}
 use Rattle.mb_world.specs.Ordinary.{Defined, Refused, Becomes, Faulty, validated, ordinary_defined}
@@ -129,4 +130,4 @@ defined t k d = defined_by_kind t.kind t k d
 
 -- CreateDataProperty of an element (ECMA-262 7.3.5) on an array that a row made
 abbrev pub element_stored : Thing → ℕ → Val → Defined
-element_stored t n v = element_defined t (index_key n) (desc_of (open_property v)) n (array_length t)
+element_stored t n v = element_defined t (index_key n) (descriptor_of (open_property v)) n (array_length t)

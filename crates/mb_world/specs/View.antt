@@ -1,10 +1,12 @@
 use Rattle.std.specs.Prelude.{ℕ, List, [], ◌∷◌, Bool, true, false, not, ◌&&◌, ◌||◌, nat_eq, Option, Some, None, is_none, if◌then◌else◌, filter_map, option_map}
+use Rattle.std.specs.Map.{keys_of}
 use Rattle.mb_desc.specs.declared.descriptor.Full.{Full}
 use Rattle.mb_desc.specs.declared.descriptor.Full.TheVariants.{Datum}
 use Rattle.mb_world.specs.Value.{Val, same_units, same_value}
 use Rattle.mb_world.specs.Key.{PropertyKey, Named, keys_in_order}
 use Rattle.mb_desc.specs.Descriptors.{is_enumerable, is_configurable}
-use Rattle.mb_world.specs.Graph.{Graph, Thing, Kind, Proxy, Rule, RuleKind, Hide, ReadOnly, Substitute, Revoke, Property}
+use Rattle.mb_desc.specs.View.{View}
+use Rattle.mb_world.specs.Graph.{Graph, Thing, Kind, Proxy, Rule, RuleKind, Hide, ReadOnly, Substitute, Revoke}
 use Rattle.mb_world.specs.Objects.{own_property, property_keys, thing_at}
 
 -- what a side sees of an object under the policy, and which changes the policy decides
@@ -77,43 +79,37 @@ shown_by _ p = p
 abbrev pub shown_property : Graph → ℕ → Thing → PropertyKey → Option (Full Val)
 shown_property g v t k = shown_by (key_rule g v t k) (own_property k t)
 
-abbrev pub as_property : PropertyKey → Option (Full Val) → Option Property
-as_property k None = None
-as_property k (Some f) = Some (record { key = k; full = f })
-
--- a plain description of an object: what a side sees of it
-pub record View : Type 0 where
-  pub prototype : Val
-  pub extensible : Bool
-  pub properties : List Property
+abbrev pub with_key : PropertyKey → Option (Full Val) → Option (PropertyKey × Full Val)
+with_key k None = None
+with_key k (Some f) = Some (k, f)
 
 -- the view that a side has of an object that is no script-made Proxy, its keys in the order of ownKeys
-abbrev pub Shown : Graph → ℕ → Thing → View
+abbrev pub Shown : Graph → ℕ → Thing → View PropertyKey Val
 Shown g v t = record {
   prototype = t.prototype;
   extensible = t.extensible;
-  properties = filter_map (λ k. as_property k (shown_property g v t k)) (keys_in_order (property_keys t.properties));
+  properties = filter_map (λ k. with_key k (shown_property g v t k)) (keys_in_order (property_keys t.properties));
 }
 
 abbrev pub shown_keys : Graph → ℕ → Thing → List PropertyKey
-shown_keys g v t = property_keys (Shown g v t).properties
+shown_keys g v t = keys_of (Shown g v t).properties
 
 -- a Proxy's owner, who acts in its traps; each has one, and s stands where none is
 abbrev pub owner_or : ℕ → Option ℕ → ℕ
 owner_or s None = s
 owner_or s (Some p) = p
 
-abbrev pub view_by_kind : Graph → ℕ → Thing → Kind → Option View
+abbrev pub view_by_kind : Graph → ℕ → Thing → Kind → Option (View PropertyKey Val)
 view_by_kind g v t (Proxy target handler shape) = option_map (Shown g (owner_or v t.owner)) (thing_at g target)
 view_by_kind g v t (Kind.Gone shape) = None
 view_by_kind g v t _ = Some (Shown g v t)
 
-abbrev pub view_if : Graph → ℕ → Option Thing → Option View
+abbrev pub view_if : Graph → ℕ → Option Thing → Option (View PropertyKey Val)
 view_if g v None = None
 view_if g v (Some t) = view_by_kind g v t t.kind
 
 -- the view of a value; that of a script-made Proxy is its owner's view of the target
-abbrev pub ViewOf : Graph → ℕ → Val → Option View
+abbrev pub ViewOf : Graph → ℕ → Val → Option (View PropertyKey Val)
 ViewOf g v o = view_if g v (thing_at g o)
 
 -- a change that a side asks of a foreign object

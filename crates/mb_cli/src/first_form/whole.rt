@@ -1,6 +1,6 @@
 // A whole text of a library.
 ghost use Rattle.std.specs.Prelude.{◌≡◌, ◌≢◌, ◌≤◌, ◌<◌, ◌+◌, Err, Some, IsSome, IsTrue, IfOk, IfSome, option_map, vec_len};
-ghost use Rattle.mb_outer.specs.Causes.{Rose};
+ghost use Rattle.mb_outer.specs.Causes.{IsRaised};
 ghost use Rattle.mb_outer.specs.Shelf.{Shelf, held};
 ghost use Rattle.mb_cli.specs.Tasks.{behind};
 ghost use Rattle.mb_cli.specs.first_form.machine.Whole.{IsWhole};
@@ -24,7 +24,7 @@ pub fn read_whole<L: Library>(
     ensures read { (s : Shelf) → L.shelf library.old ≡ Some s
         → IfOk result (λ _. L.rest library.new ≡ option_map (behind (most + 1)) (held name.now s)) }
     ensures later { L.faults library.old ≤ L.faults library.new }
-    ensures failed { result ≡ Err ReadError.Fault → Rose (L.faults library.old) (L.faults library.new) }
+    ensures failed { result ≡ Err ReadError.Fault → IsRaised (L.faults library.old) (L.faults library.new) }
     ensures counted { result ≢ Err ReadError.Fault → L.faults library.new ≡ L.faults library.old }
     ensures never { (s : Shelf) → IsTrue (L.sound library.old) → L.shelf library.old ≡ Some s
         → IsSome (held name.now s) → result ≢ Err ReadError.Fault }

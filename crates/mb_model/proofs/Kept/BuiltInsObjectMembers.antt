@@ -3,7 +3,7 @@ use Rattle.mb_desc.specs.declared.descriptor.Desc.{Desc}
 use Rattle.mb_desc.specs.declared.descriptor.Full.{Full}
 use Rattle.mb_world.specs.Value.{Val, is_object, is_undefined, is_null, is_nullish}
 use Rattle.mb_world.specs.Key.{PropertyKey, value_of_key, symbols_only, texts_only}
-use Rattle.mb_world.specs.Property.{property_is, desc_of}
+use Rattle.mb_desc.specs.Descriptors.{property_is, descriptor_of}
 use Rattle.mb_world.specs.Standard.{object_prototype}
 use Rattle.mb_model.specs.Task.{GetPrototypeOf, SetPrototypeOf, IsExtensible, PreventExtensions, GetOwnProperty, DefineOwnProperty, OwnPropertyKeys, Answer, Nothing, Value}
 use Rattle.mb_model.specs.Writing.{Does, ◌>>=◌, give, answer, pay, pay_each, flag, property, keys, perform, type_error, unless_type_error, truth}
@@ -162,8 +162,8 @@ keeps-object_define_property kept s vs = keeps->>= kept (need_object s (arg vs 0
 
 pub keeps-described : (kept : Kept) (x0 : ℕ) (x1 : Option (Full Val)) → Goes kept (described x0 x1)
 keeps-described kept s None = keeps-undefined kept
-keeps-described kept s (Some p) = keeps->>= kept (fromdesc s (desc_of p)) (λ o. give (Value o)) (keeps-fromdesc
-    kept s (desc_of p)) (λ o. keeps-give kept (Value o))
+keeps-described kept s (Some p) = keeps->>= kept (fromdesc s (descriptor_of p)) (λ o. give (Value o)) (keeps-fromdesc
+    kept s (descriptor_of p)) (λ o. keeps-give kept (Value o))
 
 pub keeps-get_own_descriptor : (kept : Kept) (x0 : ℕ) (x1 : List Val) → Goes kept (get_own_descriptor x0 x1)
 keeps-get_own_descriptor kept s vs = keeps->>= kept (need_object s (arg vs 0)) (λ _. (key_arg s vs 1) >>= (λ k.

@@ -3,7 +3,8 @@ use Rattle.mb_desc.specs.declared.descriptor.Full.{Full}
 use Rattle.mb_desc.specs.declared.descriptor.Full.TheVariants.{Datum, Accessor}
 use Rattle.mb_world.specs.Value.{Val, Undefined, is_object, is_undefined, same_value}
 use Rattle.mb_world.specs.Key.{PropertyKey, Named}
-use Rattle.mb_world.specs.Property.{open_property, value_alone, desc_of}
+use Rattle.mb_world.specs.Property.{open_property}
+use Rattle.mb_desc.specs.Descriptors.{value_alone, descriptor_of}
 use Rattle.mb_world.specs.Graph.{Thing, Kind, Function, Standard, Revoker}
 use Rattle.mb_world.specs.Standard.{object_prototype}
 use Rattle.mb_world.specs.Objects.{thing_at}
@@ -91,7 +92,7 @@ keeps-ordinary_get kept s k r (Upward parent) = keeps-parent_get kept s k r pare
 
 pub keeps-receiver_has : (kept : Kept) (x0 : ℕ) (x1 : PropertyKey) (x2 : Val) (x3 : Val) (x4 : Option (Full Val)) →
     Goes kept (receiver_has x0 x1 x2 x3 x4)
-keeps-receiver_has kept s k v r None = keeps-answer kept (perform s (DefineOwnProperty k (desc_of (open_property
+keeps-receiver_has kept s k v r None = keeps-answer kept (perform s (DefineOwnProperty k (descriptor_of (open_property
     v))) r)
 keeps-receiver_has kept s k v r (Some (Datum x true e c)) = keeps-answer kept (perform s (DefineOwnProperty k
     (value_alone v)) r)

@@ -1,8 +1,7 @@
 use Rattle.std.specs.Prelude.{ℕ, List, [], ◌∷◌, Bool, true, false, ◌&&◌, ◌||◌, Some, None}
 use Rattle.mb_desc.specs.declared.descriptor.Desc.{Desc}
 use Rattle.mb_world.specs.Value.{Val, is_object, is_undefined, to_boolean}
-use Rattle.mb_world.specs.Property.{no_fields}
-use Rattle.mb_desc.specs.Descriptors.{is_data_descriptor, is_accessor_descriptor}
+use Rattle.mb_desc.specs.Descriptors.{no_fields, is_data_descriptor, is_accessor_descriptor}
 use Rattle.mb_world.specs.Graph.{Plain}
 use Rattle.mb_world.specs.Standard.{object_prototype}
 use Rattle.mb_world.specs.Objects.{is_callable, new_thing}

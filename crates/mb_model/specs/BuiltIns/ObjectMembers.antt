@@ -4,8 +4,7 @@ use Rattle.mb_desc.specs.declared.descriptor.Full.{Full}
 use Rattle.mb_desc.specs.declared.descriptor.Full.TheVariants.{Datum, Accessor}
 use Rattle.mb_world.specs.Value.{Val, is_object, is_undefined, is_null, is_nullish}
 use Rattle.mb_world.specs.Key.{PropertyKey, value_of_key, symbols_only, texts_only}
-use Rattle.mb_world.specs.Property.{property_is, is_writable, no_fields, desc_of}
-use Rattle.mb_desc.specs.Descriptors.{is_enumerable, is_configurable}
+use Rattle.mb_desc.specs.Descriptors.{property_is, is_writable, no_fields, descriptor_of, is_enumerable, is_configurable}
 use Rattle.mb_world.specs.Standard.{object_prototype}
 use Rattle.mb_model.specs.Task.{GetPrototypeOf, SetPrototypeOf, IsExtensible, PreventExtensions, GetOwnProperty, DefineOwnProperty, OwnPropertyKeys, Answer, Nothing, Value}
 use Rattle.mb_model.specs.Writing.{Does, ◌>>=◌, give, answer, pay, pay_each, flag, property, keys, perform, type_error, unless_type_error, truth}
@@ -180,7 +179,7 @@ object_define_property s vs = do
 abbrev pub described : ℕ → Option (Full Val) → Does Answer
 described s None = undefined
 described s (Some p) = do
-  o ← fromdesc s (desc_of p)
+  o ← fromdesc s (descriptor_of p)
   give (Value o)
 
 -- Object.getOwnPropertyDescriptor (ECMA-262 20.1.2.8), which is Reflect's too here

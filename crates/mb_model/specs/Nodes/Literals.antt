@@ -2,7 +2,8 @@ use Rattle.std.specs.Prelude.{ℕ, ◌+◌, List, [], ◌∷◌, ◌++◌, lengt
 use Rattle.mb_desc.specs.declared.descriptor.Desc.{Desc}
 use Rattle.mb_world.specs.Value.{Val}
 use Rattle.mb_world.specs.Key.{PropertyKey, Named}
-use Rattle.mb_world.specs.Property.{open_property, no_fields, desc_of}
+use Rattle.mb_world.specs.Property.{open_property}
+use Rattle.mb_desc.specs.Descriptors.{no_fields, descriptor_of}
 use Rattle.mb_world.specs.Form.{PropName, Written, Computed, FunctionParts, Form, ValueForm, MethodForm, GetterForm, SetterForm}
 use Rattle.mb_world.specs.Graph.{Thing}
 use Rattle.mb_world.specs.Objects.{thing_at}
@@ -39,7 +40,7 @@ keyed_function c n parts prefix k = do
   method_function c n parts (prefix ++ name)
 
 abbrev pub open_desc : Val → Desc Val
-open_desc v = desc_of (open_property v)
+open_desc v = descriptor_of (open_property v)
 
 abbrev pub getter_desc : Val → Desc Val
 getter_desc f = record no_fields { get = Some f; enumerable = Some true; configurable = Some true }

@@ -3,7 +3,8 @@ use Rattle.mb_desc.specs.declared.descriptor.Full.{Full}
 use Rattle.mb_desc.specs.declared.descriptor.Full.TheVariants.{Datum, Accessor}
 use Rattle.mb_world.specs.Value.{Val, Undefined, is_object, is_undefined, same_value}
 use Rattle.mb_world.specs.Key.{PropertyKey, Named}
-use Rattle.mb_world.specs.Property.{open_property, value_alone, desc_of}
+use Rattle.mb_world.specs.Property.{open_property}
+use Rattle.mb_desc.specs.Descriptors.{value_alone, descriptor_of}
 use Rattle.mb_world.specs.Graph.{Graph, Thing, Kind, Function, Standard, Revoker}
 use Rattle.mb_world.specs.Standard.{object_prototype}
 use Rattle.mb_world.specs.Objects.{thing_at, is_proxy_kind}
@@ -110,7 +111,7 @@ ordinary_get s k r (Upward parent) = parent_get s k r parent
 
 -- what the receiver has was read (ECMA-262 10.1.9.2, steps 2.c to 2.e)
 abbrev pub receiver_has : ℕ → PropertyKey → Val → Val → Option (Full Val) → Does Answer
-receiver_has s k v r None = answer (perform s (DefineOwnProperty k (desc_of (open_property v))) r)
+receiver_has s k v r None = answer (perform s (DefineOwnProperty k (descriptor_of (open_property v))) r)
 receiver_has s k v r (Some (Datum x true e c)) = answer (perform s (DefineOwnProperty k (value_alone v)) r)
 receiver_has s k v r (Some (Datum x false e c)) = yes_or_no false
 receiver_has s k v r (Some (Accessor f h e c)) = yes_or_no false

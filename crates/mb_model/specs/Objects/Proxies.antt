@@ -3,8 +3,7 @@ use Rattle.mb_desc.specs.declared.descriptor.Desc.{Desc}
 use Rattle.mb_desc.specs.declared.descriptor.Full.{Full}
 use Rattle.mb_world.specs.Value.{Val, Undefined, is_object, is_null, is_nullish, to_boolean}
 use Rattle.mb_world.specs.Key.{PropertyKey, Named, key_of, value_of_key}
-use Rattle.mb_desc.specs.Descriptors.{Complete}
-use Rattle.mb_world.specs.Property.{is_fixed, property_is}
+use Rattle.mb_desc.specs.Descriptors.{Complete, is_fixed, property_is}
 use Rattle.mb_world.specs.Objects.{is_callable}
 use Rattle.mb_model.specs.Objects.Rules as rule
 use Rattle.mb_check.specs.declared.verdict.Verdict.{Verdict}

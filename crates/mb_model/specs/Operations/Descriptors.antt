@@ -2,8 +2,8 @@ use Rattle.std.specs.Prelude.{ℕ, List, [], ◌∷◌, Bool, true, false, ◌&&
 use Rattle.mb_desc.specs.declared.descriptor.Desc.{Desc}
 use Rattle.mb_world.specs.Value.{Val, Truth, is_object, is_undefined, to_boolean}
 use Rattle.mb_world.specs.Key.{PropertyKey, Named}
-use Rattle.mb_world.specs.Property.{open_property, no_fields}
-use Rattle.mb_desc.specs.Descriptors.{is_data_descriptor, is_accessor_descriptor}
+use Rattle.mb_world.specs.Property.{open_property}
+use Rattle.mb_desc.specs.Descriptors.{no_fields, is_data_descriptor, is_accessor_descriptor}
 use Rattle.mb_world.specs.Graph.{Plain, Property}
 use Rattle.mb_world.specs.Standard.{object_prototype}
 use Rattle.mb_world.specs.Objects.{is_callable, put_property, new_thing}

@@ -4,14 +4,14 @@ use Rattle.mb_desc.specs.declared.descriptor.Full.{Full}
 use Rattle.mb_world.specs.declared.entry.Op.{Op}
 use Rattle.mb_world.specs.declared.entry.Op.TheVariants.{GetPrototypeOf, SetPrototypeOf, IsExtensible, PreventExtensions, GetOwnPropertyDescriptor, DefineProperty, Has, Get, Set, DeleteProperty, OwnKeys, Apply, Construct, Collect}
 use Rattle.mb_world.specs.Value.{Val, Undefined, is_object, is_null, is_undefined}
-use Rattle.mb_world.specs.Key.{PropertyKey, keep_if}
-use Rattle.mb_desc.specs.Descriptors.{Complete, is_configurable, is_data_descriptor, is_accessor_descriptor}
-use Rattle.mb_world.specs.Property.{is_fixed}
-use Rattle.mb_world.specs.Graph.{Property, Said, SaidNothing, SaidFlag, SaidValue, SaidAbsent, SaidProperty, SaidKeys, SaidThrow, SaidPair, Entry}
+use Rattle.mb_world.specs.Key.{PropertyKey, same_key}
+use Rattle.mb_desc.specs.Descriptors.{Complete, is_configurable, is_data_descriptor, is_accessor_descriptor, is_fixed}
+use Rattle.mb_world.specs.Graph.{Said, SaidNothing, SaidFlag, SaidValue, SaidAbsent, SaidProperty, SaidKeys, SaidThrow, SaidPair, Entry}
 use Rattle.mb_world.specs.Intrinsics.{Intrinsic, intrinsic, MapPrototypeGet, MapPrototypeSet, MapPrototypeClear, MapPrototypeForEach, MapPrototypeSize, SetPrototypeClear, SetPrototypeForEach, SetPrototypeSize, WeakMapPrototypeGet, WeakMapPrototypeSet}
-use Rattle.mb_world.specs.Objects.{find_property}
-use Rattle.mb_world.specs.View.{View}
-use Rattle.mb_model.specs.Trace.Lawful.{says_absent}
+use Rattle.mb_desc.specs.View.{View}
+use Rattle.mb_view.specs.Views.{property_of}
+use Rattle.std.specs.List.{filter}
+use Rattle.std.specs.Map.{keys_of}
 use Rattle.mb_model.specs.Objects.Rules as rule
 use Rattle.mb_check.specs.declared.verdict.Verdict.{Verdict}
 use Rattle.mb_check.specs.declared.verdict.Verdict.TheVariants.{Pass, Broken}
@@ -85,6 +85,10 @@ access_given_form (Some SetPrototypeForEach) a = says_nothing a
 access_given_form (Some SetPrototypeSize) a = says_nothing a
 access_given_form _ a = any_value a
 
+abbrev pub says_absent : Said → Bool
+says_absent SaidAbsent = true
+says_absent _ = false
+
 -- a slot: a pair, an empty one, or past the last
 abbrev pub says_slot : Said → Bool
 says_slot a = says_pair a || says_absent a || says_nothing a
@@ -132,31 +136,31 @@ is_pass Pass = true
 is_pass (Broken n) = false
 
 -- the prototype, where the view is closed
-abbrev pub closed_prototype : View → Option Val
+abbrev pub closed_prototype : View PropertyKey Val → Option Val
 closed_prototype v = if v.extensible then None else Some v.prototype
 
-abbrev pub keys_where : (Full Val → Bool) → List Property → List PropertyKey
-keys_where test [] = []
-keys_where test (p ∷ ps) = keep_if (test p.full) p.key (keys_where test ps)
+-- the keys of its properties that pass a test
+abbrev pub keys_with : (Full Val → Bool) → View PropertyKey Val → List PropertyKey
+keys_with test v = keys_of (filter (λ p. test p.1) v.properties)
 
-abbrev pub own_at : View → Option PropertyKey → Option (Full Val)
+abbrev pub own_at : View PropertyKey Val → Option PropertyKey → Option (Full Val)
 own_at v None = None
-own_at v (Some k) = find_property k v.properties
+own_at v (Some k) = property_of same_key v k
 
-abbrev pub set_prototype_passes : View → Said → Bool
+abbrev pub set_prototype_passes : View PropertyKey Val → Said → Bool
 set_prototype_passes v (SaidValue p) = is_pass (rule.set_prototype p (closed_prototype v))
 set_prototype_passes v _ = true
 
-abbrev pub define_passes : View → Option PropertyKey → Said → Bool
+abbrev pub define_passes : View PropertyKey Val → Option PropertyKey → Said → Bool
 define_passes v k (SaidProperty d) = is_pass (rule.define d (own_at v k) v.extensible)
 define_passes v k _ = true
 
-abbrev pub own_keys_pass : View → List PropertyKey → Bool
-own_keys_pass v ks = is_pass (rule.own_keys ks (keys_where is_fixed v.properties)
-    (keys_where is_configurable v.properties) v.extensible)
+abbrev pub own_keys_pass : View PropertyKey Val → List PropertyKey → Bool
+own_keys_pass v ks = is_pass (rule.own_keys ks (keys_with is_fixed v)
+    (keys_with is_configurable v) v.extensible)
 
 -- what a method that isn't `get`, `set`, `has` or `apply` answered; a false answer of a change, and a throw, pass
-abbrev pub answer_passes : View → Op → Option PropertyKey → Said → Said → Bool
+abbrev pub answer_passes : View PropertyKey Val → Op → Option PropertyKey → Said → Said → Bool
 answer_passes v GetPrototypeOf k given (SaidValue p) =
     is_prototype p && is_pass (rule.get_prototype p (closed_prototype v))
 answer_passes v SetPrototypeOf k given (SaidFlag true) = set_prototype_passes v given
@@ -171,5 +175,5 @@ answer_passes v OwnKeys k given (SaidKeys ks) = own_keys_pass v ks
 answer_passes v Construct k given (SaidValue p) = is_pass (rule.construct p)
 answer_passes v _ k given _ = true
 
-abbrev pub passes : View → Entry → Bool
+abbrev pub passes : View PropertyKey Val → Entry → Bool
 passes v e = answer_passes v e.op e.key e.given e.answer

@@ -3,7 +3,7 @@ use Rattle.mb_desc.specs.declared.descriptor.Full.{Full}
 use Rattle.mb_world.specs.declared.entry.Op.TheVariants.{Collect}
 use Rattle.mb_world.specs.Value.{Val, number_of}
 use Rattle.mb_world.specs.Key.{PropertyKey}
-use Rattle.mb_world.specs.Property.{desc_of}
+use Rattle.mb_desc.specs.Descriptors.{descriptor_of}
 use Rattle.mb_model.specs.Task.{Method, SetPrototypeOf, GetOwnProperty, DefineOwnProperty, HasProperty, Get, Set, Delete, Request, GetAt, SetAt, Add, Has, DeleteAt, Answer, Nothing, Value, Flag, Prop, Given, Keys, Values, Place, Pair, Empty, Outcome, Normal, Throw, Return, Break, Continue}
 use Rattle.mb_world.specs.Graph.{Thing, Said, SaidNothing, SaidFlag, SaidValue, SaidAbsent, SaidProperty, SaidKeys, SaidThrow, SaidPair, Entry, Item, Printed, Uncaught, Traced, Graph}
 use Rattle.mb_world.specs.Objects.{thing_at}
@@ -50,7 +50,7 @@ given_of_access _ = SaidNothing
 
 abbrev pub said_property : Option (Full Val) → Said
 said_property None = SaidAbsent
-said_property (Some f) = SaidProperty (desc_of f)
+said_property (Some f) = SaidProperty (descriptor_of f)
 
 -- what an entry answers; a method or access gives no other answers, and ends in no other way
 abbrev pub said_answer : Answer → Said

@@ -17,7 +17,7 @@ use Rattle.mb_parse_stmt.specs.declared.statements.StatementParser.{StatementPar
 use Rattle.mb_parse_stmt.specs.declared.parser.Outer.{Outer}
 use Rattle.mb_parse_stmt.specs.declared.parser.Next.{Next}
 use Rattle.mb_parse_stmt.specs.declared.parser.Next.TheVariants as next
-use Rattle.mb_parse_stmt.specs.machine.Stops.{IsReading, IsWanting, AreAll}
+use Rattle.mb_parse_stmt.specs.machine.Stops.{IsUnderWay, IsWanting, AreAll}
 
 -- no expression stands from i where no statements stand from at up to a closing brace
 abbrev pub Needs : List Spanned → Level → ℕ → ℕ → Type 0
@@ -36,7 +36,7 @@ pub record AtLevel (ts : List Spanned) (outers : List Outer) (p : StatementParse
   pub start : ℕ
   pub base : List Shape
   pub stacked : Stacked ts os p.stop start base
-  pub reading : IsReading ts start base p shapes
+  pub reading : IsUnderWay ts start base p shapes
 
 -- an expression of the innermost level is to be read on
 pub record InExpression (ts : List Spanned) (outers : List Outer) (p : StatementParser) (q : ExprParser) (shapes : List Shape) : Type 0 where

@@ -15,8 +15,8 @@ use Rattle.mb_parse_stmt.specs.machine.Covers.{IsStop}
 use Rattle.mb_parse_stmt.specs.machine.Progress.{Reading, Wanting}
 
 -- a parser that is to read on, and one that wants an expression
-abbrev pub IsReading : List Spanned → ℕ → List Shape → StatementParser → List Shape → Type 0
-IsReading ts start base p shapes = Reading p.stop ts start base p.frames.items p.mode p.at p.operands.items shapes
+abbrev pub IsUnderWay : List Spanned → ℕ → List Shape → StatementParser → List Shape → Type 0
+IsUnderWay ts start base p shapes = Reading p.stop ts start base p.frames.items p.mode p.at p.operands.items shapes
 
 abbrev pub IsWanting : List Spanned → ℕ → List Shape → Level → StatementParser → List Shape → Type 0
 IsWanting ts start base level p shapes = Wanting p.stop ts start base level p.frames.items p.at p.operands.items shapes
@@ -40,12 +40,12 @@ pub record AreAll (stop : Stop) (ts : List Spanned) (start : ℕ) (base : List S
 abbrev pub NoneStand : Stop → List Spanned → ℕ → Type 0
 NoneStand stop ts start = (parts : Roses) (k : ℕ) → Statements ts parts start k → IsStop stop ts k → ⊥
 
-abbrev pub Tells : List Spanned → ℕ → List Shape → StatementParser → List Shape → Step → Type 0
-Tells ts start base p shapes (step.Asks level) = IsWanting ts start base level p shapes
-Tells ts start base p shapes step.Ended = AreAll p.stop ts start base p.at p.operands.items shapes
-Tells ts start base p shapes step.Wrong = NoneStand p.stop ts start
+abbrev pub TellsStep : List Spanned → ℕ → List Shape → StatementParser → List Shape → Step → Type 0
+TellsStep ts start base p shapes (step.Asks level) = IsWanting ts start base level p shapes
+TellsStep ts start base p shapes step.Ended = AreAll p.stop ts start base p.at p.operands.items shapes
+TellsStep ts start base p shapes step.Wrong = NoneStand p.stop ts start
 
 -- how far a parser goes
-abbrev pub Moves : StatementParser → StatementParser → Step → Type 0
-Moves old new step.Wrong = Unit {0}
-Moves old new _ = old.at + taken old.mode ≤ new.at
+abbrev pub StepMoves : StatementParser → StatementParser → Step → Type 0
+StepMoves old new step.Wrong = Unit {0}
+StepMoves old new _ = old.at + taken old.mode ≤ new.at

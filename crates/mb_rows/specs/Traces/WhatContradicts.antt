@@ -4,7 +4,7 @@ use Rattle.mb_world.specs.declared.entry.Op.TheVariants.{IsExtensible, GetOwnPro
 use Rattle.mb_desc.specs.declared.descriptor.Full.TheVariants.{Datum}
 use Rattle.mb_world.specs.Value.{Val, Null, Whole}
 use Rattle.mb_world.specs.Key.{PropertyKey, Named}
-use Rattle.mb_world.specs.Property.{desc_of}
+use Rattle.mb_desc.specs.Descriptors.{descriptor_of}
 use Rattle.mb_world.specs.Graph.{Said, SaidNothing, SaidFlag, SaidValue, SaidAbsent, SaidProperty, SaidKeys, Entry}
 use Rattle.mb_model.specs.Trace.Lawful.{is_lawful}
 
@@ -26,10 +26,10 @@ one = Whole (pos 1)
 
 -- the value is 1, for good
 abbrev fixed : Said
-fixed = SaidProperty (desc_of (Datum one false true false))
+fixed = SaidProperty (descriptor_of (Datum one false true false))
 
 abbrev loose : Said
-loose = SaidProperty (desc_of (Datum one true true true))
+loose = SaidProperty (descriptor_of (Datum one true true true))
 
 -- the second entry began behind this one; then at the same time
 abbrev pair : Entry → (ℕ → Entry) → Bool × Bool

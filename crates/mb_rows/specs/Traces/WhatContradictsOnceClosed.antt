@@ -4,7 +4,7 @@ use Rattle.mb_world.specs.declared.entry.Op.TheVariants.{GetPrototypeOf, SetProt
 use Rattle.mb_desc.specs.declared.descriptor.Full.TheVariants.{Datum}
 use Rattle.mb_world.specs.Value.{Null, Whole, Object}
 use Rattle.mb_world.specs.Key.{PropertyKey, Named}
-use Rattle.mb_world.specs.Property.{desc_of}
+use Rattle.mb_desc.specs.Descriptors.{descriptor_of}
 use Rattle.mb_world.specs.Graph.{Said, SaidNothing, SaidFlag, SaidValue, SaidAbsent, SaidProperty, SaidKeys, Entry}
 use Rattle.mb_model.specs.Trace.Lawful.{is_lawful}
 
@@ -22,7 +22,7 @@ abbrev b : PropertyKey
 b = Named (codes "b")
 
 abbrev one : Said
-one = SaidProperty (desc_of (Datum (Whole (pos 1)) true true true))
+one = SaidProperty (descriptor_of (Datum (Whole (pos 1)) true true true))
 
 abbrev shut : Entry
 shut = entry 0 5 PreventExtensions None SaidNothing (SaidFlag true)

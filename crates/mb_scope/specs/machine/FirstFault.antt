@@ -5,9 +5,9 @@ use Rattle.mb_base.specs.declared.value.NodeId.{NodeId}
 use Rattle.mb_scope.specs.declared.fault.NameFault.{NameFault}
 use Rattle.mb_scope.specs.declared.fault.NameFault.TheVariants.{Twice, Stray, BadTarget}
 use Rattle.mb_scope.specs.machine.First.{sooner}
-use Rattle.mb_scope.specs.Faults.{place_of}
+use Rattle.mb_scope.specs.Faults.{fault_place}
 
 -- the first of the nodes that break the three rules
 abbrev pub first_fault_of : Option NodeId → Option NodeId → Option NodeId → Option NameFault
 first_fault_of twice stray target =
-    sooner place_of (sooner place_of (option_map Twice twice) (option_map Stray stray)) (option_map BadTarget target)
+    sooner fault_place (sooner fault_place (option_map Twice twice) (option_map Stray stray)) (option_map BadTarget target)

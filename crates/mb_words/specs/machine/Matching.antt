@@ -7,7 +7,7 @@ use Rattle.mb_words.specs.declared.command.Command.{Command}
 use Rattle.mb_words.specs.declared.command.Command.TheVariants.{Run, Shared, Check, Load, Sides}
 use Rattle.mb_words.specs.declared.command.OptionName.{OptionName}
 use Rattle.mb_words.specs.declared.command.OptionName.TheVariants.{Policy, Schedule, Budget, Trace}
-use Rattle.mb_words.specs.Words.{Word, options_of, opening, spelled}
+use Rattle.mb_words.specs.Words.{Word, options_of, opening, option_word}
 use Rattle.mb_words.specs.Parts.{Chosen}
 use Rattle.mb_words.specs.machine.Scanning.{Slots}
 
@@ -65,7 +65,7 @@ value_word name None = []
 value_word name (Some value) = (opening name ++ value) ∷ []
 
 abbrev pub flag_word : Bool → List Word
-flag_word true = spelled Trace ∷ []
+flag_word true = option_word Trace ∷ []
 flag_word false = []
 
 abbrev pub option_words : OptionName → Chosen → List Word

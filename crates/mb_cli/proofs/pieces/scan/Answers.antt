@@ -1,7 +1,7 @@
 use Rattle.std.proofs.Common.{◌≡◌, ◌+◌, ◌<◌, ◌-◌, take, length, arith, ◌∙◌, refl, subst}
 use Rattle.std.proofs.lemmas.List.{length-take}
 use Rattle.std.specs.Prelude.{IsSome}
-use Rattle.mb_outer.specs.Causes.{Reads}
+use Rattle.mb_outer.specs.Causes.{Gets}
 use Rattle.mb_outer.specs.declared.library.Got.TheVariants as got
 use Rattle.mb_cli.proofs.PartsRead.{at_more, scanned_whole, scanned_long, left_whole, left_long, buffer_length}
 use Rattle.mb_cli.proofs.pieces.scan.Goals as goal
@@ -17,14 +17,14 @@ returns-in-Bytes-eq0-clause-script g c s told =
     let some : 0 < length c.read.new.into = omega (arith, buffer_length c.read.new.into c.loop-lexer.piece c.min-most.result (1048576 - c.fed.result + 1) c.read.auto.into c.min-most.array_long c.min-most.ensures) in
     scanned_whole (g.L.Library.shelf c.args.library.now) c.args.name.now (g.L.Library.rest c.loop-lexer.library) (g.L.Library.rest c.read.new.self) c.loop-lexer.texts c.loop-lexer.lexer c.read.new.into
     some c.loop-lexer.invariant.within c.loop-lexer.invariant.read
-    (subst (λ n. Reads (g.L.Library.rest c.loop-lexer.library) (g.L.Library.rest c.read.new.self) c.read.new.into (got.Bytes n)) c.in-Bytes-eq0.field-0-test c.in-Bytes-eq0.ensures.bytes) s told
+    (subst (λ n. Gets (g.L.Library.rest c.loop-lexer.library) (g.L.Library.rest c.read.new.self) c.read.new.into (got.Bytes n)) c.in-Bytes-eq0.field-0-test c.in-Bytes-eq0.ensures.bytes) s told
 
 pub returns-in-Bytes-eq0-clause-read : goal.returns-in-Bytes-eq0-clause-read
 returns-in-Bytes-eq0-clause-read g c s told =
     let some : 0 < length c.read.new.into = omega (arith, buffer_length c.read.new.into c.loop-lexer.piece c.min-most.result (1048576 - c.fed.result + 1) c.read.auto.into c.min-most.array_long c.min-most.ensures) in
     left_whole (g.L.Library.shelf c.args.library.now) c.args.name.now (g.L.Library.rest c.loop-lexer.library) (g.L.Library.rest c.read.new.self) c.loop-lexer.texts c.loop-lexer.lexer c.read.new.into
     some c.loop-lexer.invariant.within c.loop-lexer.invariant.read
-    (subst (λ n. Reads (g.L.Library.rest c.loop-lexer.library) (g.L.Library.rest c.read.new.self) c.read.new.into (got.Bytes n)) c.in-Bytes-eq0.field-0-test c.in-Bytes-eq0.ensures.bytes) s told
+    (subst (λ n. Gets (g.L.Library.rest c.loop-lexer.library) (g.L.Library.rest c.read.new.self) c.read.new.into (got.Bytes n)) c.in-Bytes-eq0.field-0-test c.in-Bytes-eq0.ensures.bytes) s told
 
 pub returns-in-Bytes-clause-script : goal.returns-in-Bytes-clause-script
 returns-in-Bytes-clause-script g c s told =

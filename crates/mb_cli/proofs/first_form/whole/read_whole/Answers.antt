@@ -1,7 +1,7 @@
 use Rattle.std.proofs.Common.{◌≡◌, ◌++◌, ◌+◌, ◌<◌, ◌-◌, take, length, min, arith, ◌∙◌, true, vec_len, refl, ap, subst}
 use Rattle.std.specs.Prelude.{is_ok, IsSome}
 use Rattle.std.proofs.lemmas.Grind.{common_steps}
-use Rattle.mb_outer.specs.Causes.{Reads}
+use Rattle.mb_outer.specs.Causes.{Gets}
 use Rattle.mb_outer.specs.declared.library.Got.TheVariants as got
 use Rattle.mb_cli.proofs.PartsRead.{read_more, read_ended, read_long, rest_at_end, rest_of_long, buffer_length, longer}
 use Rattle.mb_cli.proofs.first_form.Endings.{whole_long}
@@ -18,7 +18,7 @@ returns-in-Bytes-eq0-clause-whole g c s told =
     let read = c.loop-piece.invariant.read s told in
     let some : 0 < length c.read.new.into = omega (arith, buffer_length c.read.new.into c.loop-piece.piece c.min-count.result (c.args.most + 1 - vec_len c.loop-piece.text) c.read.auto.into c.min-count.array_long (c.min-count.ensures ∙ ap (λ n. min 4096 (c.args.most + 1 - n)) c.len-in-loop-piece.ensures), c.loop-piece-test.true, c.len.ensures) in (
       read_ended s c.args.name.now (g.L.Library.rest c.loop-piece.library) (g.L.Library.rest c.read.new.self) c.loop-piece.text.items c.read.new.into some read
-          (subst (λ n. Reads (g.L.Library.rest c.loop-piece.library) (g.L.Library.rest c.read.new.self) c.read.new.into (got.Bytes n)) c.in-Bytes-eq0.field-0-test c.in-Bytes-eq0.ensures.bytes),
+          (subst (λ n. Gets (g.L.Library.rest c.loop-piece.library) (g.L.Library.rest c.read.new.self) c.read.new.into (got.Bytes n)) c.in-Bytes-eq0.field-0-test c.in-Bytes-eq0.ensures.bytes),
       omega (arith, c.loop-piece-test.true, c.len.ensures),
     )
 
@@ -51,7 +51,7 @@ returns-in-Bytes-eq0-clause-read g c s told =
     let some : 0 < length c.read.new.into = omega (arith, buffer_length c.read.new.into c.loop-piece.piece c.min-count.result (c.args.most + 1 - vec_len c.loop-piece.text) c.read.auto.into c.min-count.array_long (c.min-count.ensures ∙ ap (λ n. min 4096 (c.args.most + 1 - n)) c.len-in-loop-piece.ensures), c.loop-piece-test.true, c.len.ensures) in
     rest_at_end c.args.most s c.args.name.now (g.L.Library.rest c.loop-piece.library) (g.L.Library.rest c.read.new.self) c.loop-piece.text.items c.read.new.into some
     (omega (arith, c.loop-piece-test.true, c.len.ensures)) (c.loop-piece.invariant.read s told)
-    (subst (λ n. Reads (g.L.Library.rest c.loop-piece.library) (g.L.Library.rest c.read.new.self) c.read.new.into (got.Bytes n)) c.in-Bytes-eq0.field-0-test c.in-Bytes-eq0.ensures.bytes)
+    (subst (λ n. Gets (g.L.Library.rest c.loop-piece.library) (g.L.Library.rest c.read.new.self) c.read.new.into (got.Bytes n)) c.in-Bytes-eq0.field-0-test c.in-Bytes-eq0.ensures.bytes)
 
 pub returns-clause-read : goal.returns-clause-read
 returns-clause-read g c s told =
