@@ -77,7 +77,7 @@ fn program_of(alloc: Global, tokens: &[Spanned]) -> Result<Program, TreeFault>
     requires { length tokens.now ≤ 1_048_576 }
     ensures tree { (texts : List (List ℕ)) (bytes : List ℕ) → AreTokens texts bytes tokens.now
         → IfOk result (λ program. (tree : Rose) × (shapes program.tree ≡ write [] tree) × ReadsAs texts bytes tree) }
-    ensures names { IfOk result (λ program. program.scopes.names.items ≡ names_of (shapes program.tree)) }
+    ensures names { IfOk result (λ program. program.scopes ≡ names_of (shapes program.tree)) }
     ensures fault { (texts : List (List ℕ)) (bytes : List ℕ) (kind : Kind) → AreTokens texts bytes tokens.now
         → result ≡ Err (TreeFault.Bad kind) → ScriptFault bytes kind }
 {
@@ -92,7 +92,7 @@ pub fn read_tree(alloc: Global, bytes: &[u8], texts: &mut Texts) -> Result<Progr
     requires { length bytes.now ≤ 1_048_576 }
     ensures tree { AreDistinct texts.old → IfOk result (λ program. (tree : Rose)
         × (shapes program.tree ≡ write [] tree) × ReadsAs texts.new bytes.now tree) }
-    ensures names { IfOk result (λ program. program.scopes.names.items ≡ names_of (shapes program.tree)) }
+    ensures names { IfOk result (λ program. program.scopes ≡ names_of (shapes program.tree)) }
     ensures fault { (kind : Kind) → AreDistinct texts.old
         → result ≡ Err (TreeFault.Bad kind) → ScriptFault bytes.now kind }
     ensures ids { KeepsIds texts.old texts.new }

@@ -1,5 +1,5 @@
 -- The parts that rules look at, by a node's kind and children and by its form.
-use Rattle.std.proofs.Common.{◌≡◌, true, false, List, [], ◌∷◌, Option, Some, None, refl, sym, ap, ap₂, ◌∙◌}
+use Rattle.std.proofs.Common.{◌≡◌, true, false, List, [], ◌∷◌, Option, Some, None, refl, sym, ap₂, ◌∙◌}
 use Rattle.std.specs.Prelude.{slice_get}
 use Rattle.std.specs.Option.{option_map}
 use Rattle.mb_base.specs.declared.value.NodeId.{NodeId}
@@ -8,7 +8,7 @@ use Rattle.mb_tree.specs.declared.form.Form.TheVariants as f
 use Rattle.mb_tree.specs.declared.kind.Kind.{Kind}
 use Rattle.mb_tree.specs.declared.kind.Kind.TheVariants as k
 use Rattle.mb_tree.specs.Roses.{Label}
-use Rattle.mb_tree.specs.Form.{Form, form_by, kind_of, parts_of}
+use Rattle.mb_tree.specs.Form.{form_by, kind_of, parts_of}
 use Rattle.mb_tree.specs.Seen.{seen}
 use Rattle.mb_tree.proofs.Shapes.{form_is}
 use Rattle.mb_scope.specs.Kinds.{group_part, operand_of, handler_of}

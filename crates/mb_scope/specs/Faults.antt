@@ -1,6 +1,5 @@
 -- The static rules.
 use Rattle.std.specs.Prelude.{ℕ, ◌≤◌, List}
-use Rattle.mb_base.specs.declared.value.NodeId.{NodeId}
 use Rattle.mb_tree.specs.Roses.{Shape}
 use Rattle.mb_scope.specs.declared.fault.NameFault.{NameFault}
 use Rattle.mb_scope.specs.declared.fault.NameFault.TheVariants.{Twice, Stray, BadTarget, NoMemory}

@@ -33,7 +33,7 @@ use twice::first_twice;
 pub fn check(alloc: Global, tree: &Tree) -> Result<Scopes, NameFault>
     requires whole { IsWhole (shapes tree.now) }
     requires few { vec_len tree.now.nodes < 2 ^ 32 }
-    ensures names { IfOk result (λ scopes. scopes.names.items ≡ names_of (shapes tree.now)) }
+    ensures names { IfOk result (λ scopes. scopes ≡ names_of (shapes tree.now)) }
     ensures right { IfOk result (λ scopes. IsRight (shapes tree.now)) }
     ensures fault { IfErr result (λ fault. (fault ≡ NameFault.NoMemory) ⊎ IsLeast (shapes tree.now) fault) }
 {

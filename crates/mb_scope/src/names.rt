@@ -58,11 +58,11 @@ fn add_names(
 pub fn scopes(alloc: Global, tree: &Tree) -> Result<Scopes, NoMemory>
     requires whole { IsWhole (shapes tree.now) }
     requires few { vec_len tree.now.nodes < 2 ^ 32 }
-    ensures { IfOk result (λ scopes. scopes.names.items ≡ names_of (shapes tree.now)) }
+    ensures { IfOk result (λ scopes. scopes ≡ names_of (shapes tree.now)) }
 {
     let mut names = Vec::new(alloc);
     for (place, node) in tree.nodes.iter().enumerate() {
         add_names(alloc, tree, NodeId(place as u32), node, &mut names)?;
     }
-    Ok(Scopes { names })
+    Scopes::new(alloc, names)
 }

@@ -705,7 +705,7 @@ fn names(rt: HostRuntime) -> Result<(), Fail> {
     for (rows, want) in NAMES {
         let tree = tree_of(&rt, rt.alloc(), rows)?;
         let scopes = check(rt.alloc(), &tree)?;
-        assert_eq!(rt; scopes.names.as_slice(), want, "{:?}", tree.nodes);
+        assert_eq!(rt; scopes.names(), want, "{:?}", tree.nodes);
     }
     Ok(())
 }

@@ -4,3 +4,4 @@ pub mod Stack
 pub mod Growing
 pub mod Defaults
 pub mod Shapes
+pub mod Starts

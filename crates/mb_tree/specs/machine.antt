@@ -1,3 +1,4 @@
 pub mod Operands
 pub mod Stack
 pub mod Below
+pub mod Starts

@@ -33,7 +33,7 @@ pub record Script : Type 0 where
   pub names : List (NodeId × StrId × Bool)
 
 abbrev pub script_of : Program → Script
-script_of p = record { nodes = shapes p.tree; names = p.scopes.names.items }
+script_of p = record { nodes = shapes p.tree; names = p.scopes }
 
 -- Programs and queues stand in the order of the sides, of which there may be eight; `sides` tells how many take part. A
 -- symbol is its description, if it has one.

@@ -257,7 +257,7 @@ fn reads_trees(rt: HostRuntime) {
         match read_tree(rt.alloc(), script, &mut texts) {
             Ok(program) => {
                 assert_eq!(rt; program.tree.nodes.len(), nodes, "{script:?}");
-                assert_eq!(rt; program.scopes.names.len(), names, "{script:?}");
+                assert_eq!(rt; program.scopes.names().len(), names, "{script:?}");
             }
             Err(fault) => assert!(rt; false, "{fault:?}"),
         }

@@ -1,6 +1,5 @@
-use Rattle.std.proofs.Common.{◌≡◌, ◌∙◌, List, Some, refl, sym, ap}
+use Rattle.std.proofs.Common.{◌≡◌, Some, refl, sym}
 use Rattle.std.specs.Prelude.{slice_get, None}
-use Rattle.mb_base.specs.declared.value.NodeId.{NodeId}
 use Rattle.mb_tree.specs.Roses.{shapes, view}
 use Rattle.mb_tree.proofs.Heights.{parts_first}
 use Rattle.mb_scope.proofs.Adding.{there, among_all}
