@@ -8,5 +8,4 @@ pub mod BuiltIns
 pub mod Trace
 pub mod Meaning
 pub mod Story
-pub mod Spelling
 pub mod Text

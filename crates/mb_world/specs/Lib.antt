@@ -15,6 +15,7 @@ pub mod Data
 pub mod Long
 pub mod Ids
 pub mod Image
+pub mod EntryLine
 pub mod Grows
 pub mod Contained
 pub mod Formed

@@ -3,6 +3,7 @@
 
 mod cell;
 mod entry;
+mod intrinsics;
 pub mod laws;
 mod long;
 mod roles;
@@ -12,6 +13,7 @@ mod world;
 
 pub use cell::{Cell, CellKind, Code, Coll, ErrorKind, Shape, Slots};
 pub use entry::{Entry, KeyList, Op, Said, Seen};
+pub use intrinsics::name_of;
 pub use rule::{Rule, RuleKind, Rules};
 pub use scope::{Bound, Job, Names, Scope};
 pub use world::World;

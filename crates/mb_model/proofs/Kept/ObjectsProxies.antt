@@ -8,7 +8,8 @@ use Rattle.mb_desc.specs.Descriptors.{Complete}
 use Rattle.mb_world.specs.Objects.{is_callable}
 use Rattle.mb_check.specs.declared.verdict.Verdict.{Verdict}
 use Rattle.mb_check.specs.declared.verdict.Verdict.TheVariants.{Pass, Broken}
-use Rattle.mb_model.specs.Trace.Ops.{op_of, op_name}
+use Rattle.mb_world.specs.EntryLine.{op_name}
+use Rattle.mb_model.specs.Trace.Ops.{op_of}
 use Rattle.mb_model.specs.Task.{Perform, Answer, Nothing, Value, Flag, Prop, Keys, Method, GetPrototypeOf, SetPrototypeOf, IsExtensible, PreventExtensions, GetOwnProperty, DefineOwnProperty, HasProperty, Get, Set, Delete, OwnPropertyKeys, Call, Construct}
 use Rattle.mb_model.specs.Writing.{◌>>=◌, give, look, answer, value, keys, perform, type_error, unless_type_error}
 use Rattle.mb_model.specs.Operations.Makings.{make_array}
