@@ -65,20 +65,24 @@ pub fn serve<L: Library, K: Sink>(
     requires fresh { IsFresh world.old }
 
     // The words.
-    ensures words { result ≢ Status.NoMemory
-        → (kind : WordsKind) → (result ≡ Status.BadWords kind) ↔ (settings_of (map string_bytes words.now) ≡ Err kind) }
-    ensures unread { (kind : WordsKind) → result ≡ Status.BadWords kind → library.new ≡ library.old }
+    ensures words { result ≢ Status.NoMemory → (kind : WordsKind)
+        → (result ≡ Status.BadWords kind) ↔ (settings_of (map string_bytes words.now) ≡ Err kind) }
+    ensures unread { (kind : WordsKind) → result ≡ Status.BadWords kind
+        → library.new ≡ library.old }
 
     // The answer, what was put, and the world.
     ensures answer { OnTask (L.shelf library.old) words.now (λ task. IsAnswer task result) }
     ensures text { OnTask (L.shelf library.old) words.now
-        (λ task. IsPut task result (sink.new ≡ sink.old) (Receives (K.taken sink.old) (K.taken sink.new))) }
+        (λ task. IsPut task result (sink.new ≡ sink.old)
+        (Receives (K.taken sink.old) (K.taken sink.new))) }
     ensures world { Leaves result world.new.halted (sink.new ≡ sink.old) }
 
     // Faults have a cause, and none is passed over.
-    ensures reads { TellsFaults Status.ReadFault result (L.faults library.old) (L.faults library.new) }
+    ensures reads { TellsFaults Status.ReadFault result
+        (L.faults library.old) (L.faults library.new) }
     ensures puts { TellsFaults Status.WriteFault result (K.faults sink.old) (K.faults sink.new) }
-    ensures sound { OnTask (L.shelf library.old) words.now (λ task. IsThere task → IsTrue (L.sound library.old)
+    ensures sound { OnTask (L.shelf library.old) words.now
+        (λ task. IsThere task → IsTrue (L.sound library.old)
         → IsFaultless Status.ReadFault result (L.faults library.old) (L.faults library.new)) }
     ensures room { OnTask (L.shelf library.old) words.now (λ task. HasRoom task (K.room sink.old)
         → IsFaultless Status.WriteFault result (K.faults sink.old) (K.faults sink.new)) }
