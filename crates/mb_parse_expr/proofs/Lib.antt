@@ -1,5 +1,7 @@
 pub mod Ahead
 pub mod Steps
+pub mod Closings
+pub mod Building
 pub mod Sound
 pub mod Place
 pub mod Counts

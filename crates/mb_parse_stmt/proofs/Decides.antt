@@ -29,7 +29,8 @@ use Rattle.mb_parse_stmt.specs.machine.Progress.{Progress}
 use Rattle.mb_grammar.specs.Script.{IsScript, script_of}
 use Rattle.mb_parse_stmt.proofs.Tokens.{means}
 use Rattle.mb_parse_stmt.proofs.Places.{role_within, end_within, statement_within}
-use Rattle.mb_parse_stmt.proofs.Counts.{weight, Lighter, lighter, good_within}
+use Rattle.mb_parse_stmt.proofs.Counts.{good_within}
+use Rattle.mb_parse_stmt.proofs.Weights.{weight, Lighter, lighter}
 use Rattle.mb_parse_stmt.proofs.Steps.{level_reads}
 use Rattle.mb_parse_stmt.proofs.Place.{forward_plus, progress_step, stood}
 use Rattle.mb_parse_stmt.proofs.Levels.{none_past, end_past}

@@ -2,7 +2,9 @@ pub mod Tokens
 pub mod Begins
 pub mod Places
 pub mod Steps
+pub mod Closings
 pub mod Sound
+pub mod Weights
 pub mod Counts
 pub mod Place
 pub mod Levels

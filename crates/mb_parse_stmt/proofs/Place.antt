@@ -26,7 +26,8 @@ use Rattle.mb_parse_stmt.specs.machine.Progress.{Progress, Reading, Wanting}
 use Rattle.mb_parse_stmt.specs.machine.Stops.{AreAll, NoneStand}
 use Rattle.mb_parse_stmt.proofs.Steps.{level_reads}
 use Rattle.mb_parse_stmt.proofs.Sound.{good_step}
-use Rattle.mb_parse_stmt.proofs.Counts.{Lighter, lighter, good_within, pushed_length}
+use Rattle.mb_parse_stmt.proofs.Counts.{good_within, pushed_length}
+use Rattle.mb_parse_stmt.proofs.Weights.{Lighter, lighter}
 
 pub forward_plus : (n at : ℕ) → forward n at ≡ at + n
 forward_plus zero at = omega arith

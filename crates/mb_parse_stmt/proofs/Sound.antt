@@ -14,12 +14,11 @@ use Rattle.mb_grammar.specs.declared.level.Level.TheVariants as lv
 use Rattle.mb_grammar.specs.Tokens.{after_line_at, RoleAt, SameLine, WordAt}
 use Rattle.mb_grammar.specs.Script.{Whole}
 use Rattle.mb_grammar.specs.Labels.{param}
-use Rattle.mb_grammar.specs.Parts.{Names, last_name, name_and, Params, no_params, params, params_comma}
-use Rattle.mb_grammar.specs.Grammar.{Stands, Declarations, last_declared, then_declared, Declared, declared, declared_as, lets, BlockOf, block, Perhaps, absent, present, first_lets, first_expression, Caught, no_catch, catch_all, catch_named, no_finally, finally, Sub, sub_block, empty, expression, if_then, if_else, while_do, do_while, for_loop, returns, returns_with, throw, break, continue, try, Statement, sub, let_statement, const, declaration, Statements, finished, statement}
+use Rattle.mb_grammar.specs.Parts.{Params}
+use Rattle.mb_grammar.specs.Grammar.{Stands, last_declared, Declared, declared, declared_as, lets, BlockOf, block, Perhaps, absent, present, first_lets, first_expression, no_catch, no_finally, finally, Sub, sub_block, empty, expression, if_then, if_else, while_do, do_while, for_loop, returns, returns_with, throw, break, continue, try, Statement, sub, let_statement, const, declaration, Statements, finished, statement}
 use Rattle.mb_parse_stmt.specs.declared.terminal.Terminal.{Terminal}
 use Rattle.mb_parse_stmt.specs.declared.terminal.Terminal.TheVariants as p
 use Rattle.mb_parse_stmt.specs.declared.machine.Stop.{Stop}
-use Rattle.mb_parse_stmt.specs.declared.machine.Stop.TheVariants as st
 use Rattle.mb_tree.specs.declared.tree.Label.{Label}
 use Rattle.mb_parse_stmt.specs.declared.machine.Holder.TheVariants as ho
 use Rattle.mb_parse_stmt.specs.declared.machine.Declarer.TheVariants as de
@@ -32,92 +31,11 @@ use Rattle.mb_parse_stmt.specs.declared.machine.Move.TheVariants.{Enter, Swap, B
 use Rattle.mb_parse_stmt.specs.machine.Terminals.{terminal_at}
 use Rattle.mb_parse_stmt.specs.machine.Machine.{one, value, open_then, close_then, brace_then, semicolon_then, while_then, line_move, return_move, sub_move, function_move, begin_move, is_close, close_list, then_move, try_move, catch_move, caught_move, done_move, behind_move, first_move, test_move, last_move, part_move, alone_move, name_move, declaration_move, declared_move, body_move, param_move, comma_move, catch_name_move, stops_of, Going, built, apply, move_at}
 use Rattle.mb_tree.specs.machine.Stack.{top}
-use Rattle.mb_parse_stmt.specs.machine.Covers.{Counted, no_statement, one_more, Commas, no_comma, comma_more, NameCommas, no_name, name_more, Titled, ForOpen, ForOne, ForTwo, ForThree, CatchHead, nameless, head_named, Lists, top_list, block_list, body_list, Subs, sub_list, in_then, in_else, in_while, in_do, in_for, Blocks, block_sub, in_try, in_catch, in_finally, Dones, done_statement, done_sub, done_block, Parts, part_first, part_test, part_last, Declarings, in_let, in_const, in_for_let, Declareds, declared_one, Askings, ask_if, ask_while, ask_do, ask_part, ask_return, ask_throw, ask_expression, ask_value, Behinds, behind_expression, behind_lets, InParams, in_params, InComma, in_comma, CatchNames, catch_name, IsStop, Good}
+use Rattle.mb_parse_stmt.specs.machine.Covers.{Counted, no_statement, one_more, no_comma, comma_more, no_name, name_more, Titled, ForOpen, ForOne, ForTwo, ForThree, CatchHead, nameless, head_named, Lists, top_list, block_list, body_list, Subs, sub_list, in_then, in_else, in_while, in_do, in_for, Blocks, block_sub, in_try, in_catch, in_finally, Dones, done_statement, done_sub, done_block, Parts, part_first, part_test, part_last, Declarings, in_let, in_const, in_for_let, Declareds, declared_one, Askings, ask_if, ask_while, ask_do, ask_part, ask_return, ask_throw, ask_expression, ask_value, Behinds, behind_expression, behind_lets, InParams, in_params, InComma, in_comma, CatchNames, catch_name, Good}
 use Rattle.mb_parse_stmt.proofs.Tokens.{means, word_there, no_role}
 use Rattle.mb_parse_stmt.proofs.Places.{role_within, end_within}
 use Rattle.mb_parse_stmt.proofs.Steps.{perhaps_size, first_size, for_gathers, catch_gathers, finally_gathers, body_gathers}
-
--- lists on the stack of operands
-
-record Listing (ts : List Spanned) (n : ℕ) (rs : List Rose) (acc : Roses) (rs' : List Rose) (i j : ℕ) : Type 0 where
-  parts : Roses
-  listed : Statements ts parts i j
-  stack : pushed acc rs' ≡ pushed parts rs
-  count : size parts ≡ n + size acc
-
-close_counted : {ts : List Spanned} {n : ℕ} {rs rs' : List Rose} {i k : ℕ} → Counted ts n rs rs' i k → (acc : Roses) (j : ℕ) → Statements ts acc k j → Listing ts n rs acc rs' i j
-close_counted no_statement acc j d = record { parts = acc; listed = d; stack = refl; count = omega arith }
-close_counted (one_more {a = a} c d m) acc j q =
-    let l = close_counted c (more a acc) j (statement d q) in
-    record { parts = l.parts; listed = l.listed; stack = l.stack; count = omega (arith, l.count, m) }
-
-record Declaring (ts : List Spanned) (fixed : Bool) (n : ℕ) (rs : List Rose) (acc : Roses) (rs' : List Rose) (i j : ℕ) : Type 0 where
-  parts : Roses
-  listed : Declarations ts fixed parts i j
-  stack : pushed acc rs' ≡ pushed parts rs
-  count : size parts ≡ n + size acc
-
-close_commas : {ts : List Spanned} {fixed : Bool} {n : ℕ} {rs rs' : List Rose} {i k : ℕ} → Commas ts fixed n rs rs' i k → (acc : Roses) (j : ℕ) → Declarations ts fixed acc k j → Declaring ts fixed n rs acc rs' i j
-close_commas no_comma acc j d = record { parts = acc; listed = d; stack = refl; count = omega arith }
-close_commas {ts = ts} {fixed = fixed} (comma_more {a = a} c d e m k) acc j q =
-    let l = close_commas c (more a acc) j (then_declared d e (subst (λ x. Declarations ts fixed acc x j) k q)) in
-    record { parts = l.parts; listed = l.listed; stack = l.stack; count = omega (arith, l.count, m) }
-
-record Naming (ts : List Spanned) (n : ℕ) (rs : List Rose) (acc : Roses) (rs' : List Rose) (i j : ℕ) : Type 0 where
-  parts : Roses
-  listed : Names ts parts i j
-  stack : pushed acc rs' ≡ pushed parts rs
-  count : size parts ≡ n + size acc
-
-close_names : {ts : List Spanned} {n : ℕ} {rs rs' : List Rose} {i k : ℕ} → NameCommas ts n rs rs' i k → (acc : Roses) (j : ℕ) → Names ts acc k j → Naming ts n rs acc rs' i j
-close_names no_name acc j d = record { parts = acc; listed = d; stack = refl; count = omega arith }
-close_names {ts = ts} (name_more {x = x} c d e m k) acc j q =
-    let l = close_names c (more (param x) acc) j (name_and d e (subst (λ z. Names ts acc z j) k q)) in
-    record { parts = l.parts; listed = l.listed; stack = l.stack; count = omega (arith, l.count, m) }
-
-record EndedNames (ts : List Spanned) (n : ℕ) (rs rs' : List Rose) (i j : ℕ) : Type 0 where
-  parts : Roses
-  listed : Params ts parts i j
-  stack : rs' ≡ pushed parts rs
-  count : n ≡ size parts
-
-end_names : {ts : List Spanned} {n : ℕ} {rs rs' : List Rose} {i k : ℕ} → NameCommas ts n rs rs' i k → EndedNames ts n rs rs' i k
-end_names no_name = record { parts = none; listed = no_params; stack = refl; count = refl }
-end_names {ts = ts} {i = i} (name_more {x = x} {j = j} c d e m q) =
-    let l = close_names c (more (param x) none) (j + 1) (last_name d) in
-    record { parts = l.parts; listed = subst (λ z. Params ts l.parts i z) (sym q) (params_comma l.listed e); stack = l.stack; count = omega (arith, l.count, m) }
-
-names_params : {ts : List Spanned} {n : ℕ} {rs rs' : List Rose} {i k : ℕ} {x : StrId} → NameCommas ts n rs rs' i k → RoleAt ts k (r.Name x) → EndedNames ts (n + 1) rs (param x ∷ rs') i (k + 1)
-names_params {k = k} {x = x} c d =
-    let l = close_names c (more (param x) none) (k + 1) (last_name d) in
-    record { parts = l.parts; listed = params l.listed; stack = l.stack; count = omega (arith, l.count) }
-
-record CaughtOf (ts : List Spanned) (has : Bool) (b d : Rose) (rs rs' : List Rose) (m j : ℕ) : Type 0 where
-  x : Roses
-  caught : Caught ts true has x m j
-  stack : d ∷ rs' ≡ pushed x (b ∷ rs)
-  count : size x ≡ 1 + one has
-
-caught_of : {ts : List Spanned} {has : Bool} {b d : Rose} {rs qs rs' : List Rose} {m k j : ℕ} → CatchHead ts has qs rs' m k → qs ≡ b ∷ rs → BlockOf ts d k j → CaughtOf ts has b d rs rs' m j
-caught_of {d = d} (nameless e) q bl = record { x = more d none; caught = catch_all e bl; stack = ap (λ y. d ∷ y) q; count = refl }
-caught_of {d = d} (head_named {x = x} e o n u) q bl = record { x = more (param x) (more d none); caught = catch_named e o n u bl; stack = ap (λ y. d ∷ param x ∷ y) q; count = refl }
-
-caught_size : {ts : List Spanned} {caught has : Bool} {x : Roses} {m n : ℕ} → Caught ts caught has x m n → size x ≡ one caught + one has
-caught_size no_catch = refl
-caught_size (catch_all e d) = refl
-caught_size (catch_named e o n u d) = refl
-
--- ends
-
-is_close_at : (x : Terminal) → is_close x ≡ true → x ≡ p.CloseBrace
-is_close_at p.CloseBrace e = refl
-is_close_at _ e = cc
-
-stops_at : (stop : Stop) (ts : List Spanned) (i : ℕ) (x : Terminal) → terminal_at ts i ≡ x → stops_of stop x ≡ true → IsStop stop ts i
-stops_at st.End ts i p.End e q = e
-stops_at st.End ts i _ e q = cc
-stops_at st.Brace ts i p.CloseBrace e q = means ts i p.CloseBrace e
-stops_at st.Brace ts i _ e q = cc
+use Rattle.mb_parse_stmt.proofs.Closings.{EndedNames, CaughtOf, close_counted, close_commas, end_names, names_params, caught_of, caught_size, is_close_at, stops_at}
 
 module _ (stop : Stop) (ts : List Spanned) (start : ℕ) where
   good_built : (label : Label) (mode : Mode) (fs : List Frame) (rs : List Rose) (at : ℕ) (got : Gathered) (parts : Roses) → got ≡ Got parts rs → Good stop ts start (Going fs (node label parts ∷ rs) mode at) → Good stop ts start (built label mode fs at got)

@@ -1,7 +1,7 @@
 use Rattle.std.proofs.Common.{◌≡◌, ℕ, ◌+◌, ◌-◌, ◌*◌, ◌≤◌, List, length, vec_len}
 use Rattle.mb_tree.specs.Roses.{Shape, shapes}
 use Rattle.mb_parse_stmt.specs.machine.Stops.{IsUnderWay, taken}
-use Rattle.mb_parse_stmt.proofs.Counts.{weight}
+use Rattle.mb_parse_stmt.proofs.Weights.{weight}
 use Rattle.mb_parse_stmt.proofs.statements.StatementParser.advance.Given as goal
 
 abbrev pub invariant-steps : goal.invariant-steps
