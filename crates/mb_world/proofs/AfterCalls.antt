@@ -1,5 +1,5 @@
 -- What a world stands for after each call.
-use Rattle.std.proofs.Common.{◌≡◌, ℕ, zero, suc, ◌<◌, ◌≤◌, ◌+◌, List, [], ◌∷◌, ◌++◌, length, slice_get, slice_set, slice_index_or, Option, Some, None, Bool, true, false, arith, length-append, refl, sym, ◌∙◌, ap, map, option_map, take, get_or, true≢false}
+use Rattle.std.proofs.Common.{◌≡◌, ℕ, zero, suc, ◌<◌, ◌≤◌, ◌+◌, List, [], ◌∷◌, ◌++◌, length, slice_get, slice_set, slice_index_or, Option, Some, None, Bool, true, false, arith, length-append, refl, sym, ◌∙◌, ap, map, option_map, take, get_or, true≢false, subst}
 use Rattle.std.specs.Prelude.{All}
 use Rattle.std.specs.List.{filter}
 use Rattle.std.proofs.lemmas.List.{map-append, map-set, append-nil, length-map}
@@ -20,11 +20,11 @@ use Rattle.mb_world.specs.declared.rule.Rule.{Rule}
 use Rattle.mb_world.specs.Graph.{Graph, Item}
 use Rattle.mb_world.specs.Value.{Object}
 use Rattle.mb_world.specs.Objects.{thing_at}
-use Rattle.mb_world.specs.Data.{Data, Script, Stand, Counted, AtPlace, Before, Hidden, cell_at, scope_at, next_if, numbers_from, kind_stand, stand, stands, is_object_cell, is_counted, is_array, obj_id, first_texts, length_units, new_cell, made, with_texts, with_symbol, with_scope, set_scope, change_scope, with_cell, set_cell, change_cell, with_queue, with_program, with_entry}
+use Rattle.mb_world.specs.Data.{Data, fresh, Script, Stand, Counted, AtPlace, Before, Hidden, cell_at, scope_at, next_if, numbers_from, kind_stand, stand, stands, is_object_cell, is_counted, is_array, obj_id, first_texts, length_units, new_cell, made, with_texts, with_symbol, with_scope, set_scope, change_scope, with_cell, set_cell, change_cell, with_queue, with_program, with_entry}
 use Rattle.mb_world.specs.Ids.{CellIn, JobIn, ScriptIn, Maybe, HasItsIds, Hold}
 use Rattle.mb_world.specs.Image.{names_of, object_in, number_at, thing_in, things_in, scope_in, job_in, program_in, Image}
 use Rattle.mb_world.specs.Grows.{Grows}
-use Rattle.mb_world.specs.Laws.{Becomes, same_graph, OfText, OfSymbol, OfObject, OfMade, OfHidden, OfChanged, OfHiddenChanged, OfCell, OfScope, OfChangedScope, OfQueue, OfProgram, OfNoted, OfEntry, OfRules, OfRevoked, OfJoined, OfHalted}
+use Rattle.mb_world.specs.Laws.{Becomes, same_graph, OfText, OfSymbol, OfObject, OfMade, OfHidden, OfChanged, OfHiddenChanged, OfCell, OfScope, OfChangedScope, OfQueue, OfProgram, OfSides, OfTexts, OfNoted, OfEntry, OfRules, OfRevoked, OfJoined, OfHalted}
 use Rattle.mb_world.proofs.Stands.{stands-set}
 use Rattle.mb_world.proofs.Grow.{Grows-same, Grows-then, Hold-grows}
 use Rattle.mb_world.proofs.Images.{things-grow, symbols-grow, scopes-grow, queues-grow, programs-grow, rules-grow}
@@ -259,3 +259,18 @@ of-joined d = record { grows = Grows-flags d d.revoked true d.halted; image = λ
 
 pub of-halted : OfHalted
 of-halted d = record { grows = Grows-flags d d.revoked d.joined true; image = λ log. refl }
+
+pub of-sides : OfSides
+of-sides d n = record {
+  grows = record { texts_in = omega arith; symbols_in = omega arith; cells_in = omega arith; scopes_in = omega arith; same_text = λ t l. refl; same_object = λ o l. refl; same_number = λ o l. refl };
+  image = λ log. refl;
+}
+
+from-fresh : (texts : List (List ℕ)) → Becomes fresh (with_texts fresh texts) same_graph
+from-fresh texts = record {
+  grows = record { texts_in = omega arith; symbols_in = omega arith; cells_in = omega arith; scopes_in = omega arith; same_text = λ t l. absurd (omega (arith, l)); same_object = λ o l. refl; same_number = λ o l. refl };
+  image = λ log. refl;
+}
+
+pub of-texts : OfTexts
+of-texts d texts e = let P : Data → Type 0 = λ x. Becomes x (with_texts x texts) same_graph in subst P (sym e) (from-fresh texts)

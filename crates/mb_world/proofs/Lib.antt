@@ -4,8 +4,10 @@ pub mod Images
 pub mod Worlds
 pub mod Queues
 pub mod Texts
+pub mod Firsts
 pub mod Noted
 pub mod Making
 pub mod LongTexts
 pub mod Arrays
 pub mod AfterCalls
+pub mod BoundNames

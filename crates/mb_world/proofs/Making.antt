@@ -18,7 +18,8 @@ use Rattle.mb_world.specs.Ids.{HasItsIds, Hold, TextIn, ObjIn, KindIn, CellIn, S
 use Rattle.mb_world.specs.Grows.{Grows}
 use Rattle.mb_world.specs.Image.{names_of, stood}
 use Rattle.mb_world.specs.machine.Inside.{IsIndexed, Indexed}
-use Rattle.mb_world.specs.machine.Roles.{noted, or_if, plays_by, player}
+use Rattle.mb_world.specs.machine.Roles.{noted, plays_by, player}
+use Rattle.mb_world.specs.machine.Firsts.{or_if}
 use Rattle.mb_world.proofs.Grow.{Hold-grows, Hold-symbols, Hold-cells, Hold-scopes, CellIn-grows, ScopeOf-grows, All-at, Maybe-weaker, TextIn-grows}
 use Rattle.mb_world.proofs.Stands.{numbers_from-append, count_from, length-numbers_from, count-places, places-append}
 use Rattle.mb_world.proofs.Noted.{player-push}

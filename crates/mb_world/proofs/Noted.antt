@@ -14,7 +14,9 @@ use Rattle.mb_world.specs.declared.roles.Role.{Role}
 use Rattle.mb_world.specs.declared.roles.Role.TheVariants.{ProxyOf, BuiltInOf, BuiltIn}
 use Rattle.mb_world.specs.declared.cell.Cell.{Cell}
 use Rattle.mb_world.specs.Data.{Stand, Counted, AtPlace, Before, Hidden, stand, obj_id, stands_at, stands_before, same_side}
-use Rattle.mb_world.specs.machine.Roles.{same_role, plays, plays_by, player, noted, or_if, AreRoles}
+use Rattle.mb_world.specs.machine.Roles.{same_role, plays, plays_by, player, noted, AreRoles}
+use Rattle.mb_world.specs.machine.Firsts.{or_if}
+use Rattle.mb_world.proofs.Firsts.{or_if-false, or_if-map, position-push}
 
 abbrev pub derived : Role → Role → Bool
 derived = (TheImpl.eq-value).it
@@ -61,41 +63,6 @@ same_role-same (ProxyOf s o) = rw (same_nat s.0, same_nat o.0) refl
 same_role-same (BuiltInOf s n) = rw (same_nat s.0, same_nat n) refl
 same_role-same (BuiltIn n) = same_nat n
 
-or_if-there : (b : Bool) (id : ObjId) (o : Option ObjId) → is_some o ≡ true → o ≡ or_if b id o
-or_if-there b id (Some x) h = refl
-or_if-there b id None h = absurd (true≢false (sym h))
-
-pub none-of : {A : Type 0} (o : Option A) → is_some o ≡ false → o ≡ None
-none-of None h = refl
-none-of (Some x) h = absurd (true≢false h)
-
-pub or_if-false : (id : ObjId) (o : Option ObjId) → or_if false id o ≡ o
-or_if-false id (Some x) = refl
-or_if-false id None = refl
-
--- the role is there: it stays as it is
-pub note-there : (rs : List (Role × ObjId)) (role : Role) (id : ObjId) → is_some (noted rs role) ≡ true → (r : Role) → noted rs r ≡ or_if (same_role r role) id (noted rs r)
-note-there rs role id h r = by (same_role r role) refl
-  where
-    by : (b : Bool) → same_role r role ≡ b → noted rs r ≡ or_if b id (noted rs r)
-    by true e = or_if-there true id (noted rs r) (ap (λ x. is_some (noted rs x)) (same_role-equal r role e) ∙ h)
-    by false e = sym (or_if-false id (noted rs r))
-
--- the role is new
-pub note-new : (old new : List (Role × ObjId)) (role : Role) (id : ObjId) → noted old role ≡ None → ((q : Role) → noted new q ≡ cond (same_role role q) (Some id) (noted old q)) → (r : Role) → noted new r ≡ or_if (same_role r role) id (noted old r)
-note-new old new role id none at r = by (same_role role r) refl (same_role r role) refl
-  where
-    by : (b : Bool) → same_role role r ≡ b → (c : Bool) → same_role r role ≡ c → noted new r ≡ or_if c id (noted old r)
-    by true e c f =
-        let q : role ≡ r = same_role-equal role r e in
-        let n : noted old r ≡ None = ap (noted old) (sym q) ∙ none in
-        let t : c ≡ true = sym f ∙ ap (λ x. same_role r x) q ∙ same_role-same r in
-        rw (at r, e, n, t) refl
-    by false e true f =
-        let q : r ≡ role = same_role-equal r role f in
-        absurd (true≢false (sym (same_role-same role) ∙ ap (same_role role) (sym q) ∙ e))
-    by false e false f = rw (at r, e) (sym (or_if-false id (noted old r)))
-
 and-false : (b : Bool) → (b && false) ≡ false
 and-false true = refl
 and-false false = refl
@@ -132,27 +99,6 @@ note-none home s id rs h r = rw (none r s h, or_if-false id (noted rs r)) refl
 
 -- ---- one more cell
 
-place-found : (a n : ℕ) (p : Bool) → a ≤ n → option_map obj_id (cond (nat_lt (cond (eqb a n) (n + cond p 0 1) a) (n + 1)) (Some (cond (eqb a n) (n + cond p 0 1) a)) None) ≡ or_if p (obj_id n) (option_map obj_id (cond (nat_lt a n) (Some a) None))
-place-found a n p l = by (eqb a n) refl p
-  where
-    by : (b : Bool) → eqb a n ≡ b → (p : Bool) → option_map obj_id (cond (nat_lt (cond b (n + cond p 0 1) a) (n + 1)) (Some (cond b (n + cond p 0 1) a)) None) ≡ or_if p (obj_id n) (option_map obj_id (cond (nat_lt a n) (Some a) None))
-    by true e true =
-        let q : a ≡ n = eqb-true a n e in
-        let x : nat_lt (n + 0) (n + 1) ≡ true = grind (arith, nat_tests) in
-        let y : nat_lt a n ≡ false = grind (arith, nat_tests) in
-        let z : n + 0 ≡ n = omega arith in
-        rw (x, y, z) refl
-    by true e false =
-        let q : a ≡ n = eqb-true a n e in
-        let x : nat_lt (n + 1) (n + 1) ≡ false = grind (arith, nat_tests) in
-        let y : nat_lt a n ≡ false = grind (arith, nat_tests) in
-        rw (x, y) refl
-    by false e p =
-        let x : nat_lt a (n + 1) ≡ true = grind (arith, nat_tests) in
-        let y : nat_lt a n ≡ true = grind (arith, nat_tests) in
-        rw (x, y) refl
-
 pub player-push : (cells : List Cell) (c : Cell) (role : Role) → player (cells ++ c ∷ []) role ≡ or_if (plays role c) (obj_id (length cells)) (player cells role)
 player-push cells c role =
-    let n : length (cells ++ c ∷ []) ≡ length cells + 1 = omega (arith, length-append cells (c ∷ [])) in
-    rw (position_or_len_push (plays role) cells c, n) (place-found (position_or_len (plays role) cells) (length cells) (plays role c) (prefix_len-le-length _ cells))
+    rw (position-push (plays role) cells c) (or_if-map obj_id (plays role c) (length cells) (position (plays role) cells))

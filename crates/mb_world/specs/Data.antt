@@ -104,7 +104,7 @@ abbrev pub names_at : Data → ScopeId → List Bound
 names_at d id = names_in (scope_at d id)
 
 abbrev pub has_name : StrId → Bound → Bool
-has_name name b = nat_eq b.name.0 name.0
+has_name name b = nat_eq name.0 b.name.0
 
 abbrev pub queue_of : Data → Side → List Job
 queue_of d side = slice_index_or d.queues side.0 []

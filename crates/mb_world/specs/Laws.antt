@@ -1,5 +1,5 @@
 -- What a world stands for after each call, and that each id of before stands for what it stood for.
-use Rattle.std.specs.Prelude.{ℕ, ◌≡◌, ◌++◌, List, [], ◌∷◌, length, map, Option, Some, None, Bool, true, false, slice_set, option_map}
+use Rattle.std.specs.Prelude.{ℕ, ◌≡◌, ◌++◌, List, [], ◌∷◌, length, map, Option, Some, None, Bool, true, false, slice_set, option_map, take}
 use Rattle.mb_base.specs.declared.value.StrId.{StrId}
 use Rattle.mb_base.specs.declared.value.ObjId.{ObjId}
 use Rattle.mb_base.specs.declared.value.ScopeId.{ScopeId}
@@ -15,7 +15,7 @@ use Rattle.mb_world.specs.declared.rule.Rule.{Rule}
 use Rattle.mb_world.specs.Value.{Object}
 use Rattle.mb_world.specs.Graph.{Graph, Item}
 use Rattle.mb_world.specs.Objects.{thing_at}
-use Rattle.mb_world.specs.Data.{Data, Script, stand, kind_stand, is_counted, is_object_cell, obj_id, cell_at, scope_at, with_texts, with_symbol, change_cell, with_scope, change_scope, with_queue, with_program, with_entry, made, new_cell}
+use Rattle.mb_world.specs.Data.{Data, fresh, Script, stand, kind_stand, is_counted, is_object_cell, obj_id, cell_at, scope_at, with_texts, with_symbol, change_cell, with_scope, change_scope, with_queue, with_program, with_entry, made, new_cell}
 use Rattle.mb_world.specs.Ids.{HasItsIds, TextIn, ValueIn, KindIn, Maybe}
 use Rattle.mb_world.specs.Grows.{Grows}
 use Rattle.mb_world.specs.Image.{names_of, object_in, number_at, thing_in, scope_in, job_in, program_in, rule_in, entry_in, entries_in, Image}
@@ -103,6 +103,17 @@ pub record OfNoted (d : Data) (e : Entry) : Type 0 where
 
 abbrev pub OfEntry : Type 0
 OfEntry = (d : Data) (e : Entry) → OfNoted d e
+
+-- how many sides take part: the queues and scripts are theirs
+abbrev pub OfSides : Type 0
+OfSides = (d : Data) (n : ℕ) → Becomes d (record d { sides = n }) (λ g. record g {
+    queues = map (map (job_in (names_of d))) (take n d.queues);
+    programs = map (program_in d.texts) (take n d.programs);
+  })
+
+-- a fresh world takes texts
+abbrev pub OfTexts : Type 0
+OfTexts = (d : Data) (texts : List (List ℕ)) → d ≡ fresh → Becomes d (with_texts d texts) same_graph
 
 -- the rules and the flags
 abbrev pub OfRules : Type 0

@@ -1,3 +1,5 @@
 pub mod Arrays
+pub mod Firsts
 pub mod Inside
+pub mod Places
 pub mod Roles

@@ -1,5 +1,5 @@
 // What a world stands for after each call: laws over the definitions, so the bodies are empty.
-ghost use Rattle.mb_world.specs.Laws.{OfText, OfSymbol, OfMade, OfHidden, OfChanged, OfHiddenChanged, OfCell, OfScope, OfChangedScope, OfQueue, OfProgram, OfEntry, OfRules, OfRevoked, OfJoined, OfHalted};
+ghost use Rattle.mb_world.specs.Laws.{OfText, OfSymbol, OfMade, OfHidden, OfChanged, OfHiddenChanged, OfCell, OfScope, OfChangedScope, OfQueue, OfProgram, OfSides, OfTexts, OfEntry, OfRules, OfRevoked, OfJoined, OfHalted};
 
 /// A text more leaves the image, and each id stands for what it stood for.
 pub fn a_text_changes_nothing_else()
@@ -54,6 +54,16 @@ pub fn jobs_stand_in_their_queue()
 /// The script of a side.
 pub fn a_script_is_that_of_its_side()
     ensures { OfProgram }
+{}
+
+/// How many sides take part tells which queues and scripts the image has.
+pub fn the_image_has_the_sides_that_take_part()
+    ensures { OfSides }
+{}
+
+/// A fresh world that takes texts has the image of before.
+pub fn taken_texts_leave_the_image()
+    ensures { OfTexts }
 {}
 
 /// A new entry is the last of the trace, and the image is as before.

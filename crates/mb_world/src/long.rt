@@ -79,7 +79,8 @@ fn push_seen(texts: &Texts, value: Seen, found: &mut Vec<StrId>) -> Result<(), N
 }
 
 fn push_seen_if(texts: &Texts, value: Option<Seen>, found: &mut Vec<StrId>) -> Result<(), NoMemory>
-    ensures { OnOk result (found.new.items ≡ found.old.items ++ filter (is_long texts.now) (texts_if seen_texts value)) }
+    ensures { OnOk result (found.new.items
+        ≡ found.old.items ++ filter (is_long texts.now) (texts_if seen_texts value)) }
 {
     match value {
         Some(value) => push_seen(texts, value, found),
@@ -97,14 +98,16 @@ fn push_desc(texts: &Texts, desc: Desc<Seen>, found: &mut Vec<StrId>) -> Result<
 }
 
 fn push_pair(texts: &Texts, key: Seen, value: Seen, found: &mut Vec<StrId>) -> Result<(), NoMemory>
-    ensures { OnOk result (found.new.items ≡ found.old.items ++ filter (is_long texts.now) (seen_texts key ++ seen_texts value)) }
+    ensures { OnOk result (found.new.items
+        ≡ found.old.items ++ filter (is_long texts.now) (seen_texts key ++ seen_texts value)) }
 {
     push_seen(texts, key, found)?;
     push_seen(texts, value, found)
 }
 
 fn push_keys(texts: &Texts, keys: &[Key], found: &mut Vec<StrId>) -> Result<(), NoMemory>
-    ensures { OnOk result (found.new.items ≡ found.old.items ++ filter (is_long texts.now) (flat_map key_texts keys.now)) }
+    ensures { OnOk result (found.new.items
+        ≡ found.old.items ++ filter (is_long texts.now) (flat_map key_texts keys.now)) }
 {
     for key in keys {
         push_key(texts, *key, found)?;

@@ -2,7 +2,8 @@
 ghost use Rattle.std.specs.Prelude.{◌≡◌, ◌<◌, ◌≤◌, ◌+◌, IsOk, OnOk, OnErr};
 ghost use Rattle.indexmap.specs.IndexMap.{spare};
 ghost use Rattle.mb_world.specs.Data.{kind_stand, AtPlace};
-ghost use Rattle.mb_world.specs.machine.Roles.{noted, or_if, plays_by, same_role};
+ghost use Rattle.mb_world.specs.machine.Roles.{noted, plays_by, same_role};
+ghost use Rattle.mb_world.specs.machine.Firsts.{or_if};
 ghost use Rattle.mb_world.specs.declared.roles.Role.{Role};
 
 use crate::cell::CellKind;
@@ -30,7 +31,8 @@ pub(crate) fn first(roles: &IndexMap<Role, ObjId>, role: Role) -> Option<ObjId>
 
 // Notes the cell for the role, unless another was noted before.
 fn note(roles: &mut IndexMap<Role, ObjId>, role: Role, id: ObjId) -> Result<(), NoMemory>
-    ensures noted { OnOk result ((r : Role) → noted roles.new.entries r ≡ or_if (same_role r role) id (noted roles.old.entries r)) }
+    ensures noted { OnOk result ((r : Role)
+        → noted roles.new.entries r ≡ or_if (same_role r role) id (noted roles.old.entries r)) }
     ensures kept { OnErr result (roles.new.entries ≡ roles.old.entries) }
     ensures succeeds { 0 < spare roles.old → IsOk result }
     ensures room { spare roles.old ≤ spare roles.new + 1 }
@@ -49,7 +51,8 @@ pub(crate) fn note_all(
     kind: &CellKind,
     id: ObjId,
 ) -> Result<(), NoMemory>
-    ensures noted { OnOk result ((r : Role) → noted roles.new.entries r ≡ or_if (plays_by r home (kind_stand kind.now)) id (noted roles.old.entries r)) }
+    ensures noted { OnOk result ((r : Role)
+        → noted roles.new.entries r ≡ or_if (plays_by r home (kind_stand kind.now)) id (noted roles.old.entries r)) }
     ensures kept { OnErr result (roles.new.entries ≡ roles.old.entries) }
 {
     match *kind {
@@ -66,7 +69,8 @@ fn note_built_in(
     place: u16,
     id: ObjId,
 ) -> Result<(), NoMemory>
-    ensures noted { OnOk result ((r : Role) → noted roles.new.entries r ≡ or_if (plays_by r home (AtPlace place)) id (noted roles.old.entries r)) }
+    ensures noted { OnOk result ((r : Role)
+        → noted roles.new.entries r ≡ or_if (plays_by r home (AtPlace place)) id (noted roles.old.entries r)) }
     ensures kept { OnErr result (roles.new.entries ≡ roles.old.entries) }
 {
     roles.reserve(2)?;

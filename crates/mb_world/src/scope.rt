@@ -1,7 +1,11 @@
 // Scopes and jobs.
-ghost use Rattle.std.specs.Prelude.{◌≡◌, ◌<◌, [], ◌∷◌, ◌++◌, length, position, slice_get, OnOk, OnErr};
+ghost use Rattle.std.specs.Prelude.{◌≡◌, ◌<◌, ◌+◌, [], ◌∷◌, ◌++◌, length, position, slice_get, IfOk, OnOk, OnErr};
 ghost use Rattle.mb_world.specs.Data.{give_at, has_name};
+ghost use Rattle.mb_world.specs.Long.{same_id};
+ghost use Rattle.mb_world.specs.machine.Firsts.{or_if};
+ghost use Rattle.mb_world.specs.machine.Places.{placed, ArePlaces, IsPlaced};
 
+use indexmap::IndexMap;
 use mb_base::{NoMemory, ScopeId, Side, StrId, Value};
 use std::alloc::Global;
 use std::marker::Model;
@@ -14,10 +18,15 @@ pub struct Bound {
     pub fixed: bool,
 }
 
-/// The names of a scope.
+// A scope with more names has an index of their places.
+const FEW: usize = 8;
+
+/// The names of a scope. A name is found in constant time on average.
 #[derive(Drop)]
 pub struct Names {
     items: Vec<Bound>,
+    // of more than `FEW` names, the first place of each
+    places: IndexMap<StrId, usize>,
 }
 
 impl Model for Names {
@@ -26,7 +35,11 @@ impl Model for Names {
 
     ghost Value = { List Bound };
 
+    ghost use Rattle.mb_world.specs.machine.Places.{IsPlaced};
+
     ghost view = { λ names. names.items.items };
+
+    ghost invariant = { λ names. IsPlaced names.items.items names.places.entries };
 }
 
 impl Names {
@@ -36,6 +49,7 @@ impl Names {
     {
         Names {
             items: Vec::new(alloc),
+            places: IndexMap::new(alloc),
         }
     }
 
@@ -57,7 +71,11 @@ impl Names {
     pub fn place_of(&self, name: StrId) -> Option<usize>
         ensures { result ≡ position (has_name name) self.now }
     {
-        self.items.iter().position(|bound| bound.name == name)
+        if self.items.len() > FEW {
+            placed(&self.places, name)
+        } else {
+            first_place(&self.items, name)
+        }
     }
 
     /// One more name, last.
@@ -65,7 +83,10 @@ impl Names {
         ensures pushed { OnOk result (self.new ≡ self.old ++ bound ∷ []) }
         ensures kept { OnErr result (self.new ≡ self.old) }
     {
-        self.items.push(bound)?;
+        let alloc = *self.items.allocator();
+        self.items.reserve(1)?;
+        add_place(alloc, &mut self.places, &self.items, bound.name)?;
+        self.items.push_reserved(bound);
         Ok(())
     }
 
@@ -77,6 +98,70 @@ impl Names {
         let bound = &mut self.items[place];
         bound.value = Some(value);
     }
+}
+
+fn first_place(names: &[Bound], name: StrId) -> Option<usize>
+    ensures { result ≡ position (has_name name) names.now }
+{
+    names.iter().position(|bound| name == bound.name)
+}
+
+// What the index has for a name.
+fn placed(places: &IndexMap<StrId, usize>, name: StrId) -> Option<usize>
+    ensures { result ≡ placed places.now.entries name }
+{
+    match places.get(&name) {
+        Some(place) => Some(*place),
+        None => None,
+    }
+}
+
+// Notes the place of a name, unless another was noted before.
+fn note_place(places: &mut IndexMap<StrId, usize>, name: StrId, place: usize) -> Result<(), NoMemory>
+    ensures noted { OnOk result ((n : StrId)
+        → placed places.new.entries n ≡ or_if (same_id n name) place (placed places.old.entries n)) }
+    ensures kept { OnErr result (places.new.entries ≡ places.old.entries) }
+{
+    if places.contains_key(&name) {
+        return Ok(());
+    }
+    places.insert(name, place)?;
+    Ok(())
+}
+
+// The index of these names.
+fn places_of(alloc: Global, names: &[Bound]) -> Result<IndexMap<StrId, usize>, NoMemory>
+    ensures { IfOk result (λ places. ArePlaces names.now places.entries) }
+{
+    let mut places = IndexMap::new(alloc);
+    for (place, bound) in names.iter().enumerate() {
+        note_place(&mut places, bound.name, place)?;
+    }
+    Ok(places)
+}
+
+// Makes the index that of one more name.
+fn add_place(
+    alloc: Global,
+    places: &mut IndexMap<StrId, usize>,
+    names: &[Bound],
+    name: StrId,
+) -> Result<(), NoMemory>
+    requires { IsPlaced names.now places.old.entries }
+    ensures placed { OnOk result (8 < length names.now + 1 → (n : StrId) → placed places.new.entries n
+        ≡ or_if (same_id n name) (length names.now) (position (has_name n) names.now)) }
+    ensures kept { OnErr result (IsPlaced names.now places.new.entries) }
+{
+    if names.len() < FEW {
+        return Ok(());
+    }
+    if names.len() == FEW {
+        let mut all = places_of(alloc, names)?;
+        note_place(&mut all, name, FEW)?;
+        *places = all;
+        return Ok(());
+    }
+    note_place(places, name, names.len())
 }
 
 /// A scope: its names, and the scope above it.

@@ -32,8 +32,8 @@ data_of w = record {
 }
 
 -- how long the lists are
-pub record Sized (texts : List (List ℕ)) (symbols : List (Option StrId)) (programs : List (Option Script)) (cells : List Cell)
-    (scopes : List Scope) (queues : List (List Job)) : Type 0 where
+pub record Sized (texts : List (List ℕ)) (symbols : List (Option StrId)) (programs : List (Option Script))
+    (cells : List Cell) (scopes : List Scope) (queues : List (List Job)) : Type 0 where
   pub distinct : AreDistinct texts
   pub few_symbols : length symbols < 2 ^ 32
   pub eight_programs : length programs ≡ 8
@@ -42,7 +42,8 @@ pub record Sized (texts : List (List ℕ)) (symbols : List (Option StrId)) (prog
   pub eight_queues : length queues ≡ 8
 
 -- the indexes of the cells: their numbers, those that have one, and who plays each role
-pub record Indexed (cells : List Cell) (numbers_index : List ℕ) (serials : List ObjId) (roles : List (Role × ObjId)) : Type 0 where
+pub record Indexed (cells : List Cell) (numbers_index : List ℕ) (serials : List ObjId)
+    (roles : List (Role × ObjId)) : Type 0 where
   pub numbers_are : numbers_index ≡ numbers (stands cells)
   pub serials_are : serials ≡ objects_of cells
   pub roles_are : AreRoles cells roles
@@ -53,7 +54,8 @@ pub record LongIndexed (d : Data) (long : List StrId) : Type 0 where
   pub few_long : length long < 2 ^ 32
 
 -- the invariant of a world with its indexes
-pub record IsIndexed (d : Data) (numbers_index : List ℕ) (serials : List ObjId) (roles : List (Role × ObjId)) (long : List StrId) : Type 0 where
+pub record IsIndexed (d : Data) (numbers_index : List ℕ) (serials : List ObjId) (roles : List (Role × ObjId))
+    (long : List StrId) : Type 0 where
   pub ids : HasItsIds d
   pub sized : Sized d.texts d.symbols d.programs d.cells d.scopes d.queues
   pub indexed : Indexed d.cells numbers_index serials roles

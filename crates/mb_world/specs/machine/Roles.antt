@@ -35,9 +35,3 @@ noted roles role = lookup (same_role role) roles
 
 abbrev pub AreRoles : List Cell → List (Role × ObjId) → Type 0
 AreRoles cells roles = (role : Role) → noted roles role ≡ player cells role
-
--- what was found, or else the id, where the test passes
-abbrev pub or_if : Bool → ObjId → Option ObjId → Option ObjId
-or_if b id (Some x) = Some x
-or_if true id None = Some id
-or_if false id None = None

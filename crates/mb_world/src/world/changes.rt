@@ -41,9 +41,12 @@ impl World {
     pub fn join(&mut self, a: StrId, b: StrId) -> Result<StrId, TextFault>
         requires first { TextIn self.old a }
         requires second { TextIn self.old b }
-        ensures texts { OnOk result (self.new ≡ with_texts self.old (with_text self.old.texts (text_at self.old.texts a ++ text_at self.old.texts b))) }
-        ensures text { IfOk result (λ id. slice_get self.new.texts id.0 ≡ Some (text_at self.old.texts a ++ text_at self.old.texts b)) }
-        ensures long { (result ≡ Err TextFault.Long) ↔ (2 ^ 20 < length (text_at self.old.texts a ++ text_at self.old.texts b)) }
+        ensures texts { OnOk result (self.new ≡ with_texts self.old
+            (with_text self.old.texts (text_at self.old.texts a ++ text_at self.old.texts b))) }
+        ensures text { IfOk result (λ id. slice_get self.new.texts id.0
+            ≡ Some (text_at self.old.texts a ++ text_at self.old.texts b)) }
+        ensures long { (result ≡ Err TextFault.Long)
+            ↔ (2 ^ 20 < length (text_at self.old.texts a ++ text_at self.old.texts b)) }
         ensures kept { OnErr result (self.new ≡ self.old) }
     {
         let id = self.texts.join(a, b)?;

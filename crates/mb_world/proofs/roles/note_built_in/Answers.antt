@@ -1,6 +1,7 @@
 use Rattle.std.proofs.Common.{◌≡◌, ◌∙◌, ap}
 use Rattle.mb_world.specs.declared.roles.Role.TheVariants.{BuiltInOf}
-use Rattle.mb_world.specs.machine.Roles.{noted, or_if, same_role}
+use Rattle.mb_world.specs.machine.Roles.{noted, same_role}
+use Rattle.mb_world.specs.machine.Firsts.{or_if}
 use Rattle.mb_world.proofs.Noted.{note-built-in}
 use Rattle.mb_world.proofs.roles.note_built_in.Goals as goal
 

@@ -3,7 +3,8 @@ use Rattle.mb_world.specs.declared.roles.Role.{Role}
 use Rattle.mb_world.specs.Data.{stand, obj_id, is_counted}
 use Rattle.mb_world.specs.Ids.{CellIn}
 use Rattle.mb_world.specs.machine.Inside.{data_of}
-use Rattle.mb_world.specs.machine.Roles.{noted, or_if, plays_by}
+use Rattle.mb_world.specs.machine.Roles.{noted, plays_by}
+use Rattle.mb_world.specs.machine.Firsts.{or_if}
 use Rattle.mb_world.proofs.Stands.{few-objects}
 use Rattle.mb_world.proofs.Making.{Index-cell}
 use Rattle.mb_world.proofs.world.World.add_cell.Goals as goal
