@@ -1,14 +1,14 @@
-use Rattle.std.specs.Prelude.{Bool, true, false, Option, Some, None, if◌then◌else◌}
+use Rattle.std.specs.Prelude.{ℕ, Bool, true, false, not, ◌&&◌, ◌||◌, nat_eq, Option, Some, None, if◌then◌else◌}
 use Rattle.mb_desc.specs.declared.descriptor.Desc.{Desc}
 use Rattle.mb_desc.specs.declared.descriptor.Full.{Full}
 use Rattle.mb_desc.specs.declared.descriptor.Full.TheVariants.{Datum, Accessor}
 use Rattle.mb_desc.specs.Descriptors.{is_configurable}
 use Rattle.mb_desc.specs.Validate.{Validate}
 use Rattle.mb_world.specs.declared.cell.ErrorKind.{ErrorKind}
-use Rattle.mb_world.specs.Value.{Val, Undefined, is_object, is_undefined, same_value}
+use Rattle.mb_world.specs.Value.{Val, Undefined, is_object, same_value}
 use Rattle.mb_world.specs.Key.{PropertyKey}
 use Rattle.mb_world.specs.Graph.{Thing}
-use Rattle.mb_world.specs.Objects.{own_property, with_property, without_property}
+use Rattle.mb_world.specs.Objects.{is_proxy_kind, own_property, with_property, without_property}
 
 -- the atomic parts of the internal methods of ordinary objects (ECMA-262 10.1): what each makes of one object, and what
 -- it answers, before any other object is asked
@@ -47,6 +47,16 @@ prototype_answered t p =
     else if t.extensible then None
     else Some false
 
+-- the first object is of another side than the second; a built-in is of every side
+abbrev pub other_owner : Option ℕ → Option ℕ → Bool
+other_owner (Some a) (Some b) = not (nat_eq a b)
+other_owner _ _ = false
+
+-- OrdinarySetPrototypeOf (ECMA-262 10.1.2.1), step 7: whether the walk over prototypes ends at an object, for an object
+-- of that owner: at a script-made Proxy, and once the membrane is revoked at an object of another side
+abbrev pub walk_stops : (revoked : Bool) → (owner : Option ℕ) → Thing → Bool
+walk_stops revoked owner x = is_proxy_kind x.kind || (revoked && other_owner owner x.owner)
+
 -- what is found at a key, or where it is to be looked up
 pub data Look : Type 0 where
   Found : Full Val → Look
@@ -69,7 +79,7 @@ abbrev pub written : (prototype : Val) → Option (Full Val) → Writing
 written above None = if is_object above then WriteAbove above else StoreInReceiver
 written above (Some (Datum v true e c)) = StoreInReceiver
 written above (Some (Datum v false e c)) = RefuseWrite
-written above (Some (Accessor g s e c)) = if is_undefined s then RefuseWrite else CallSetter s
+written above (Some (Accessor g s e c)) = if is_object s then CallSetter s else RefuseWrite
 
 -- what a deletion does: nothing, with this answer; or this is the object afterwards, and the answer is true
 pub data Deleted : Type 0 where

@@ -99,6 +99,7 @@ impl World {
         ensures value { cell_at self.now id ≡ Some result.now }
         ensures within { CellIn self.now result.now }
         ensures ids { HasItsIds self.now }
+        ensures distinct { AreDistinct self.now.texts }
     {
         &self.cells[id.0 as usize]
     }

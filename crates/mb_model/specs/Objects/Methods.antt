@@ -1,4 +1,4 @@
-use Rattle.std.specs.Prelude.{ℕ, List, [], ◌∷◌, Bool, true, false, not, ◌&&◌, ◌||◌, nat_eq, Option, Some, None, if◌then◌else◌, codes}
+use Rattle.std.specs.Prelude.{ℕ, List, [], ◌∷◌, Bool, true, false, Option, Some, None, if◌then◌else◌, codes}
 use Rattle.mb_desc.specs.declared.descriptor.Full.{Full}
 use Rattle.mb_desc.specs.declared.descriptor.Full.TheVariants.{Datum, Accessor}
 use Rattle.mb_world.specs.Value.{Val, Undefined, is_object, is_undefined, same_value}
@@ -7,8 +7,8 @@ use Rattle.mb_world.specs.Property.{open_property}
 use Rattle.mb_desc.specs.Descriptors.{value_alone, descriptor_of}
 use Rattle.mb_world.specs.Graph.{Graph, Thing, Kind, Function, Standard, Revoker}
 use Rattle.mb_world.specs.Standard.{object_prototype}
-use Rattle.mb_world.specs.Objects.{thing_at, is_proxy_kind}
-use Rattle.mb_world.specs.Ordinary.{Defined, Refused, Becomes, Faulty, closed, with_prototype, prototype_answered, Look, Found, Upward, looked, Writing, RefuseWrite, WriteAbove, StoreInReceiver, CallSetter, written, Deleted, Leaves, Without, deleted}
+use Rattle.mb_world.specs.Objects.{thing_at}
+use Rattle.mb_world.specs.Ordinary.{Defined, Refused, Becomes, Faulty, closed, with_prototype, prototype_answered, walk_stops, Look, Found, Upward, looked, Writing, RefuseWrite, WriteAbove, StoreInReceiver, CallSetter, written, Deleted, Leaves, Without, deleted}
 use Rattle.mb_world.specs.Arrays.{defined, element_stored}
 use Rattle.mb_world.specs.View.{shown_property, shown_keys, Change, Proto, Prevent, Define, Write, Remove, Ruling, Free, Decided, Admits}
 use Rattle.mb_model.specs.Task.{Walk, Enter, Run, Answer, Value, Prop, Keys, Method, GetPrototypeOf, SetPrototypeOf, IsExtensible, PreventExtensions, GetOwnProperty, DefineOwnProperty, HasProperty, Get, Set, Delete, OwnPropertyKeys, Call, Construct}
@@ -42,17 +42,13 @@ store_element s a n v = do
 -- ---- the walk of setPrototypeOf (ECMA-262 10.1.2.1, step 7): 1 for each object; it goes through the membrane until
 -- that is revoked
 
-abbrev pub other_owner : Option ℕ → Option ℕ → Bool
-other_owner (Some a) (Some b) = not (nat_eq a b)
-other_owner _ _ = false
-
 abbrev pub owner_of : Option Thing → Option ℕ
 owner_of None = None
 owner_of (Some t) = t.owner
 
 -- o is the object whose prototype is set, x the thing that is visited
 abbrev pub walk_ends : Graph → Val → Thing → Bool
-walk_ends g o x = is_proxy_kind x.kind || (g.revoked && other_owner (owner_of (thing_at g o)) x.owner)
+walk_ends g o x = walk_stops g.revoked (owner_of (thing_at g o)) x
 
 abbrev pub prototype_set : Val → Val → Does Answer
 prototype_set o p = do

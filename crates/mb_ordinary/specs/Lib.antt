@@ -1,0 +1,4 @@
+pub mod Definitions
+pub mod Lookups
+pub mod Objects
+pub mod Walks
