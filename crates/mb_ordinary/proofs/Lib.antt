@@ -1,3 +1,5 @@
-pub mod Values
 pub mod Accepting
+pub mod Cells
 pub mod SameKeys
+pub mod Values
+pub mod Visiting

@@ -69,14 +69,16 @@ pub data Walked : Type 0 where
   Unpaid : Walked
   Answered : (answer : Bool) → (left : ℕ) → Walked
 
+-- a visit was made, and so many units are left for a walk that goes on
+abbrev pub after_visit : Visit → (left : ℕ) → (go : Value → Walked) → Walked
+after_visit Meets left go = Answered false left
+after_visit Ends left go = Answered true left
+after_visit (Onward above) left go = go above
+
 -- the walk from a value on, with so many units: a visit costs 1
 abbrev pub walked : (ObjId → Visit) → ℕ → Value → Walked
 walked visit zero (v.Object x) = Unpaid
-walked visit (suc n) (v.Object x) = elim (visit x) [
-  | Meets ↦ Answered false n
-  | Ends ↦ Answered true n
-  | Onward above ↦ walked visit n above
-]
+walked visit (suc n) (v.Object x) = after_visit (visit x) n (walked visit n)
 walked visit n y = Answered true n
 
 -- the walk from a value on comes to an object

@@ -53,20 +53,19 @@ pub fn delete(w: &mut World, o: ObjId, key: Key) -> bool
     ensures removed { w.new ≡ without_if result w.old o key }
     ensures meant { IfSome (object_at w.old o) (λ t. deleted_at w.old key t ≡ as_deleted result (object_at w.new o) (property_at w.old o key)) }
 {
-    if is_fixed(w, o, key) {
-        false
-    } else {
-        w.remove(o, key);
-        true
+    let cell = w.cell(o);
+    if is_fixed(cell.props.get(key)) {
+        return false;
     }
+    w.remove(o, key);
+    true
 }
 
 // Whether a property is there and isn't configurable.
-fn is_fixed(w: &World, o: ObjId, key: Key) -> bool
-    requires { IsOrdinary (cell_at w.now o) }
-    ensures { result ≡ not (is_loose (property_at w.now o key)) }
+fn is_fixed(property: Option<Full<Value>>) -> bool
+    ensures { result ≡ not (is_loose property) }
 {
-    match w.cell(o).props.get(key) {
+    match property {
         Some(Full::Datum { configurable, .. } | Full::Accessor { configurable, .. }) => !configurable,
         None => false,
     }
