@@ -1,5 +1,5 @@
 -- What definitions and deletions of a property do.
-use Rattle.std.specs.Prelude.{ℕ, ◌≡◌, ◌++◌, List, [], Bool, true, false, Option, Some, None, Contains, if◌then◌else◌}
+use Rattle.std.specs.Prelude.{ℕ, ◌≡◌, ◌++◌, List, [], Bool, true, false, Option, Some, None, Contains, IfSome, if◌then◌else◌}
 use Rattle.mb_base.specs.declared.value.ObjId.{ObjId}
 use Rattle.mb_base.specs.declared.value.Key.{Key}
 use Rattle.mb_base.specs.declared.value.Value.{Value}
@@ -17,7 +17,7 @@ use Rattle.mb_world.specs.Data.{Data, cell_at, property_at, change_cell, put_in,
 use Rattle.mb_world.specs.Ids.{Maybe, ValueIn}
 use Rattle.mb_world.specs.Image.{names_of, Resolve, object_in, key_in, desc_in}
 use Rattle.mb_world.specs.Formed.{option_values, full_values}
-use Rattle.mb_ordinary.specs.Objects.{property_of}
+use Rattle.mb_ordinary.specs.Objects.{object_at, property_of}
 
 -- ---- which references are told apart
 
@@ -36,6 +36,9 @@ property_values (Some p) = full_values p
 -- the values of a descriptor, and those of the property at its key
 abbrev pub compared : Data → ObjId → Key → Desc Value → List Value
 compared d o key desc = desc_values desc ++ property_values (property_at d o key)
+
+abbrev pub TellsFields : Data → ObjId → Key → Desc Value → Type 0
+TellsFields d o key desc = TellsApart d (compared d o key desc)
 
 -- ---- a definition (ECMA-262 10.1.6.1)
 
@@ -66,6 +69,11 @@ abbrev pub as_defined : Bool → Option Thing → Defined
 as_defined true (Some t) = Becomes t true
 as_defined _ _ = Refused
 
+-- from one world to the other the object became what the definition makes of it, with this answer
+abbrev pub IsDefined : (before after : Data) → ObjId → Key → Desc Value → (answer : Bool) → Type 0
+IsDefined d d' o key desc answer =
+    IfSome (object_at d o) (λ t. defined_at d key desc t ≡ as_defined answer (object_at d' o))
+
 -- ---- a deletion (ECMA-262 10.1.10.1)
 
 -- it is absent or configurable
@@ -85,3 +93,8 @@ deleted_at d key t = deleted t (key_in (names_of d) key) (property_of d key t)
 abbrev pub as_deleted : (answer : Bool) → Option Thing → Option (Full Value) → Deleted
 as_deleted true (Some t) (Some p) = Without t
 as_deleted answer _ _ = Leaves answer
+
+-- from one world to the other the object became what the deletion makes of it, with this answer
+abbrev pub IsDeleted : (before after : Data) → ObjId → Key → (answer : Bool) → Type 0
+IsDeleted d d' o key answer =
+    IfSome (object_at d o) (λ t. deleted_at d key t ≡ as_deleted answer (object_at d' o) (property_at d o key))

@@ -1,4 +1,5 @@
 pub mod Definitions
+pub mod Laws
 pub mod Lookups
 pub mod Objects
 pub mod Walks

@@ -1,21 +1,38 @@
 -- What is found at a key, and what a write does next.
-use Rattle.std.specs.Prelude.{Bool, true, false, Option, Some, None}
+use Rattle.std.specs.Prelude.{List, map, Bool, true, false, Option, Some, None, option_map}
 use Rattle.mb_base.specs.declared.value.Key.{Key}
 use Rattle.mb_base.specs.declared.value.Value.{Value}
 use Rattle.mb_base.specs.declared.value.Value.TheVariants as v
 use Rattle.mb_desc.specs.declared.descriptor.Full.{Full}
 use Rattle.mb_desc.specs.declared.descriptor.Full.TheVariants.{Datum, Accessor}
+use Rattle.mb_world.specs.Value.{Val}
+use Rattle.mb_world.specs.Key.{PropertyKey, keys_in_order}
 use Rattle.mb_world.specs.Graph.{Thing}
+use Rattle.mb_world.specs.Objects.{property_keys}
 use Rattle.mb_world.specs.Ordinary as graph
 use Rattle.mb_world.specs.Ordinary.{Writing, RefuseWrite, WriteAbove, StoreInReceiver, CallSetter, looked, written}
 use Rattle.mb_world.specs.Data.{Data}
 use Rattle.mb_world.specs.Ids.{ValueIn, FullIn, ObjIn}
-use Rattle.mb_world.specs.Image.{names_of, Resolve, object_in, full_in}
+use Rattle.mb_world.specs.Image.{names_of, Resolve, object_in, key_in, full_in}
 use Rattle.mb_ordinary.specs.declared.answers.Look.{Look}
 use Rattle.mb_ordinary.specs.declared.answers.Look.TheVariants.{Found, Up}
 use Rattle.mb_ordinary.specs.declared.answers.SetStep.{SetStep}
 use Rattle.mb_ordinary.specs.declared.answers.SetStep.TheVariants as step
 use Rattle.mb_ordinary.specs.Objects.{property_of}
+
+-- ---- own properties (ECMA-262 10.1.5.1, 10.1.11.1)
+
+-- what a property stands for, if there is one
+abbrev pub own_in : Data → Option (Full Value) → Option (Full Val)
+own_in d p = option_map (full_in (names_of d)) p
+
+-- what keys stand for
+abbrev pub keys_in : Data → List Key → List PropertyKey
+keys_in d ks = map (key_in (names_of d)) ks
+
+-- what the definition lists of an object
+abbrev pub own_keys : Thing → List PropertyKey
+own_keys t = keys_in_order (property_keys t.properties)
 
 -- ---- a look (ECMA-262 10.1.7.1, 10.1.8.1)
 

@@ -1,5 +1,5 @@
 -- The walk over prototypes by which setPrototypeOf finds cycles (ECMA-262 10.1.2.1, step 7).
-use Rattle.std.specs.Prelude.{ℕ, zero, suc, ◌≡◌, List, [], ◌∷◌, Bool, true, false, nat_eq, Option, Some, None, if◌then◌else◌}
+use Rattle.std.specs.Prelude.{ℕ, zero, suc, ◌≡◌, List, [], ◌∷◌, Bool, true, false, nat_eq, Option, Some, None, IfSome, option_map, if◌then◌else◌}
 use Rattle.mb_base.specs.declared.value.ObjId.{ObjId}
 use Rattle.mb_base.specs.declared.value.Value.{Value}
 use Rattle.mb_base.specs.declared.value.Value.TheVariants as v
@@ -9,13 +9,13 @@ use Rattle.mb_world.specs.declared.cell.CellKind.TheVariants.{Membrane}
 use Rattle.mb_world.specs.declared.cell.Cell.{Cell}
 use Rattle.mb_world.specs.Value.{same_value}
 use Rattle.mb_world.specs.Graph.{Thing}
-use Rattle.mb_world.specs.Ordinary.{prototype_answered, walk_stops}
+use Rattle.mb_world.specs.Ordinary.{with_prototype, prototype_answered, walk_stops}
 use Rattle.mb_world.specs.Data.{Data, cell_at}
 use Rattle.mb_world.specs.Ids.{ValueIn}
 use Rattle.mb_world.specs.Image.{Names, names_of, object_in, Resolve}
 use Rattle.mb_ordinary.specs.declared.answers.Visit.{Visit}
 use Rattle.mb_ordinary.specs.declared.answers.Visit.TheVariants.{Meets, Ends, Onward}
-use Rattle.mb_ordinary.specs.Objects.{owner_by, object_of}
+use Rattle.mb_ordinary.specs.Objects.{owner_by, object_of, object_at}
 use Rattle.mb_ordinary.specs.Definitions.{TellsApart}
 
 -- ---- one visit
@@ -104,17 +104,31 @@ or_walked n walk (Some b) = Answered b n
 abbrev pub proto_set : Data → ObjId → Value → ℕ → Walked
 proto_set d o p n = or_walked n (walked (visited d o) n p) (answered p (cell_at d o))
 
--- the same by what ids and values stand for
+-- the answer before the walk by what values stand for
+abbrev pub answered_as : Data → Value → Thing → Option Bool
+answered_as d p t = prototype_answered t (Resolve (names_of d) p)
+
+-- the whole by what ids and values stand for
 abbrev pub proto_set_as : Data → ObjId → Value → ℕ → Thing → Walked
-proto_set_as d o p n t =
-    or_walked n (walked (visited_as d o) n p) (prototype_answered t (Resolve (names_of d) p))
+proto_set_as d o p n t = or_walked n (walked (visited_as d o) n p) (answered_as d p t)
+
+-- the two are the same
+abbrev pub AnswersAsObject : Data → ObjId → Value → ℕ → Type 0
+AnswersAsObject d o p n = IfSome (object_at d o) (λ t. proto_set d o p n ≡ proto_set_as d o p n t)
+
+-- the object with another prototype
+abbrev pub object_with : Data → Value → ObjId → Option Thing
+object_with d p o = option_map (with_prototype (Resolve (names_of d) p)) (object_at d o)
 
 abbrev pub proto_of : Option Cell → List Value
 proto_of None = []
 proto_of (Some c) = c.proto ∷ []
 
--- No two different cells that the new and the old prototype name stand for the same, and no visited one stands for what o
--- stands for but o
+-- no two different cells that the new and the old prototype name stand for the same
+abbrev pub TellsProto : Data → ObjId → Value → Type 0
+TellsProto d o p = TellsApart d (p ∷ proto_of (cell_at d o))
+
+-- nor does an object that the walk visits, but o, stand for what o does
 pub record TellsWalk (d : Data) (o : ObjId) (p : Value) : Type 0 where
-  pub values : TellsApart d (p ∷ proto_of (cell_at d o))
+  pub values : TellsProto d o p
   pub visits : (x : ObjId) → Visits (visited d o) p x → TellsReal d o x

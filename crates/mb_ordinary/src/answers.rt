@@ -19,7 +19,8 @@ pub enum SetStep {
     Setter(ObjId),
 }
 
-/// What the walk over prototypes finds at an object: the one whose prototype is set, the walk's end, or what comes next.
+/// What the walk over prototypes finds at an object: that its prototype is the one to be set, the walk's end, or what
+/// comes next.
 #[derive(Clone, Copy, Debug, PartialEq, Eq)]
 pub enum Visit {
     Meets,

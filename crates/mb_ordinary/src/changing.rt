@@ -1,11 +1,11 @@
 // What changes an object's properties, or that it takes more.
-ghost use Rattle.std.specs.Prelude.{◌≡◌, ◌≢◌, None, is_some, not, true, IfOk, IfSome, IsOk, OnOk, OnErr, option_map};
+ghost use Rattle.std.specs.Prelude.{◌≡◌, ◌≢◌, None, is_some, not, true, IfOk, IsOk, OnOk, OnErr, option_map};
 ghost use Rattle.mb_desc.specs.Descriptors.{IsOfOneKind};
 ghost use Rattle.mb_world.specs.Data.{cell_at, property_at, change_cell, closed};
 ghost use Rattle.mb_world.specs.Ids.{KeyIn};
 ghost use Rattle.mb_world.specs.Ordinary.{closed as closed_object};
 ghost use Rattle.mb_ordinary.specs.Objects.{IsOrdinary, object_at};
-ghost use Rattle.mb_ordinary.specs.Definitions.{TellsApart, compared, DescIn, accepted, with_accepted, defined_at, as_defined, is_loose, without_if, deleted_at, as_deleted};
+ghost use Rattle.mb_ordinary.specs.Definitions.{TellsFields, DescIn, accepted, with_accepted, IsDefined, is_loose, without_if, IsDeleted};
 
 use mb_base::{Key, NoMemory, ObjId, Value};
 use mb_desc::{Desc, Full, validate};
@@ -30,7 +30,7 @@ pub fn define(w: &mut World, o: ObjId, key: Key, desc: Desc<Value>) -> Result<bo
     requires kind { IsOfOneKind desc }
     ensures answer { IfOk result (λ b. b ≡ is_some (accepted w.old o key desc)) }
     ensures put { OnOk result (w.new ≡ with_accepted w.old o key (accepted w.old o key desc)) }
-    ensures meant { TellsApart w.old (compared w.old o key desc) → IfOk result (λ b. IfSome (object_at w.old o) (λ t. defined_at w.old key desc t ≡ as_defined b (object_at w.new o))) }
+    ensures meant { TellsFields w.old o key desc → IfOk result (IsDefined w.old w.new o key desc) }
     ensures there { property_at w.old o key ≢ None → IsOk result }
     ensures refused { accepted w.old o key desc ≡ None → IsOk result }
     ensures kept { OnErr result (w.new ≡ w.old) }
@@ -51,7 +51,7 @@ pub fn delete(w: &mut World, o: ObjId, key: Key) -> bool
     requires key { KeyIn w.old key }
     ensures answer { result ≡ is_loose (property_at w.old o key) }
     ensures removed { w.new ≡ without_if result w.old o key }
-    ensures meant { IfSome (object_at w.old o) (λ t. deleted_at w.old key t ≡ as_deleted result (object_at w.new o) (property_at w.old o key)) }
+    ensures meant { IsDeleted w.old w.new o key result }
 {
     let cell = w.cell(o);
     if is_fixed(cell.props.get(key)) {
@@ -66,7 +66,8 @@ fn is_fixed(property: Option<Full<Value>>) -> bool
     ensures { result ≡ not (is_loose property) }
 {
     match property {
-        Some(Full::Datum { configurable, .. } | Full::Accessor { configurable, .. }) => !configurable,
+        Some(Full::Datum { configurable, .. } | Full::Accessor { configurable, .. }) =>
+            !configurable,
         None => false,
     }
 }

@@ -1,11 +1,14 @@
-//! The atomic parts of the internal methods of ordinary objects (ECMA-262, 10.1): what each does to one cell, before any
-//! other object is asked.
+//! The atomic parts of the internal methods of ordinary objects (ECMA-262, 10.1): what each does to one cell, before
+//! any other object is asked.
 #![tactic(auto)]
 
 mod answers;
 mod changing;
+pub mod laws;
 mod prototypes;
 mod reading;
+#[cfg(test)]
+mod tests;
 
 pub use answers::{Look, SetStep, Visit};
 pub use changing::{define, delete, prevent};

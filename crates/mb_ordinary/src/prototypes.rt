@@ -1,23 +1,22 @@
 // The prototype of an object, and the walk that finds cycles.
-ghost use Rattle.std.specs.Prelude.{◌≡◌, ◌≢◌, ◌↔◌, ◌∷◌, List, Option, None, Some, true, Ok, IfOk, IfSome, IsErr, OnErr, option_map, if◌then◌else◌};
+ghost use Rattle.std.specs.Prelude.{◌≡◌, ◌≢◌, ◌↔◌, List, Option, None, Some, true, Ok, IfOk, IfSome, IsErr, OnErr, if◌then◌else◌};
 ghost use Rattle.mb_base.specs.declared.value.Side.{Side};
 ghost use Rattle.mb_base.specs.declared.value.Value.{Value};
 ghost use Rattle.mb_world.specs.Data.{cell_at, change_cell, with_proto};
 ghost use Rattle.mb_world.specs.Ids.{ObjIn, ValueIn};
-ghost use Rattle.mb_world.specs.Image.{Names, names_of, Resolve, kind_in};
+ghost use Rattle.mb_world.specs.Image.{Names, kind_in};
 ghost use Rattle.mb_world.specs.Objects.{is_proxy_kind};
-ghost use Rattle.mb_world.specs.Ordinary.{with_prototype, prototype_answered, other_owner};
+ghost use Rattle.mb_world.specs.Ordinary.{other_owner};
 ghost use Rattle.mb_ordinary.specs.Objects.{IsOrdinary, owner_by, object_at};
-ghost use Rattle.mb_ordinary.specs.Definitions.{TellsApart};
-ghost use Rattle.mb_ordinary.specs.Walks.{real, cell_owner, visited, visited_as, VisitIn, TellsReal, Unpaid, Answered, walked, answered, proto_of, proto_set, proto_set_as, TellsWalk};
+ghost use Rattle.mb_ordinary.specs.Walks.{real, cell_owner, visited, visited_as, VisitIn, TellsReal, Unpaid, Answered, walked, answered, answered_as, proto_set, AnswersAsObject, object_with, TellsProto, TellsWalk};
 
 use crate::answers::Visit;
 use mb_base::{Fuel, ObjId, Spent, Value};
 use mb_world::{CellKind, World};
 
-/// OrdinarySetPrototypeOf (ECMA-262, 10.1.2.1). The walk over prototypes takes a unit for each object that it visits, and
-/// it is `Spent` where the next one can't be paid; those before stay taken. It goes on behind membrane proxies, and ends
-/// at a script-made Proxy and, once the membrane is revoked, at an object of another side.
+/// OrdinarySetPrototypeOf (ECMA-262, 10.1.2.1). The walk over prototypes takes a unit for each object that it visits.
+/// It is `Spent` where the next one can't be paid; those before stay taken. It goes on behind membrane proxies, and
+/// ends at a script-made Proxy and, once the membrane is revoked, at an object of another side.
 pub fn set_proto(w: &mut World, o: ObjId, p: Value, fuel: &mut Fuel) -> Result<bool, Spent>
     requires object { IsOrdinary (cell_at w.old o) }
     requires proto { ValueIn w.old p }
@@ -26,8 +25,8 @@ pub fn set_proto(w: &mut World, o: ObjId, p: Value, fuel: &mut Fuel) -> Result<b
     ensures left { OnErr result (fuel.new ≡ 0) }
     ensures set { result ≡ Ok true → w.new ≡ change_cell w.old o (with_proto p) }
     ensures kept { result ≢ Ok true → w.new ≡ w.old }
-    ensures meant { TellsWalk w.old o p → IfSome (object_at w.old o) (λ t. proto_set w.old o p fuel.old ≡ proto_set_as w.old o p fuel.old t) }
-    ensures object { result ≡ Ok true → object_at w.new o ≡ option_map (with_prototype (Resolve (names_of w.old) p)) (object_at w.old o) }
+    ensures meant { TellsWalk w.old o p → AnswersAsObject w.old o p fuel.old }
+    ensures object { result ≡ Ok true → object_at w.new o ≡ object_with w.old p o }
 {
     let answer = match proto_answer(w, o, p) {
         Some(answer) => answer,
@@ -44,7 +43,7 @@ pub fn proto_answer(w: &World, o: ObjId, p: Value) -> Option<bool>
     requires object { IsOrdinary (cell_at w.now o) }
     requires proto { ValueIn w.now p }
     ensures answer { result ≡ answered p (cell_at w.now o) }
-    ensures meant { TellsApart w.now (p ∷ proto_of (cell_at w.now o)) → IfSome (object_at w.now o) (λ t. result ≡ prototype_answered t (Resolve (names_of w.now) p)) }
+    ensures meant { TellsProto w.now o p → IfSome (object_at w.now o) (λ t. result ≡ answered_as w.now p t) }
 {
     let cell = w.cell(o);
     if p == cell.proto {

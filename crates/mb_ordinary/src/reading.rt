@@ -1,16 +1,14 @@
 // What an object is asked.
-ghost use Rattle.std.specs.Prelude.{◌≡◌, All, IfOk, IfSome, Some, map, option_map};
+ghost use Rattle.std.specs.Prelude.{◌≡◌, All, IfOk, IfSome, Some};
 ghost use Rattle.mb_base.specs.declared.value.Value.TheVariants.{Undefined};
 ghost use Rattle.std.specs.Map.{keys_of};
 ghost use Rattle.mb_props.specs.KeyOrder.{IsInKeyOrder};
 ghost use Rattle.mb_props.specs.Table.{found};
 ghost use Rattle.mb_world.specs.Data.{cell_at, property_at};
 ghost use Rattle.mb_world.specs.Ids.{ValueIn, FullIn, KeyIn};
-ghost use Rattle.mb_world.specs.Image.{names_of, Resolve, key_in, full_in};
-ghost use Rattle.mb_world.specs.Key.{keys_in_order};
-ghost use Rattle.mb_world.specs.Objects.{property_keys};
+ghost use Rattle.mb_world.specs.Image.{names_of, Resolve};
 ghost use Rattle.mb_ordinary.specs.Objects.{IsOrdinary, object_at, property_of};
-ghost use Rattle.mb_ordinary.specs.Lookups.{look_from, LookIn, look_in, looked_at, step_from, StepIn, step_in, written_at};
+ghost use Rattle.mb_ordinary.specs.Lookups.{own_in, keys_in, own_keys, look_from, LookIn, look_in, looked_at, step_from, StepIn, step_in, written_at};
 
 use crate::answers::{Look, SetStep};
 use mb_base::{Key, NoMemory, ObjId, Value};
@@ -41,7 +39,7 @@ pub fn own(w: &World, o: ObjId, key: Key) -> Option<Full<Value>>
     requires object { IsOrdinary (cell_at w.now o) }
     requires key { KeyIn w.now key }
     ensures value { result ≡ property_at w.now o key }
-    ensures meant { IfSome (object_at w.now o) (λ t. option_map (full_in (names_of w.now)) result ≡ property_of w.now key t) }
+    ensures meant { IfSome (object_at w.now o) (λ t. own_in w.now result ≡ property_of w.now key t) }
     ensures within { IfSome result (FullIn w.now) }
 {
     w.cell(o).props.get(key)
@@ -61,8 +59,7 @@ pub fn look(w: &World, o: ObjId, key: Key) -> Look
     }
 }
 
-/// What OrdinarySetWithOwnDescriptor does first (ECMA-262, 10.1.9.2, steps 1 to 3). A setter that is no object counts as
-/// none.
+/// What OrdinarySetWithOwnDescriptor does first (ECMA-262, 10.1.9.2, steps 1 to 3). A setter that is no object is none.
 pub fn set_step(w: &World, o: ObjId, key: Key) -> SetStep
     requires object { IsOrdinary (cell_at w.now o) }
     requires key { KeyIn w.now key }
@@ -97,7 +94,7 @@ fn step_of(property: Full<Value>) -> SetStep
 pub fn keys(w: &World, o: ObjId) -> Result<Vec<Key>, NoMemory>
     requires { IsOrdinary (cell_at w.now o) }
     ensures order { IfOk result (λ ks. IfSome (cell_at w.now o) (λ c. IsInKeyOrder (keys_of c.props) ks.items)) }
-    ensures meant { IfOk result (λ ks. IfSome (object_at w.now o) (λ t. map (key_in (names_of w.now)) ks.items ≡ keys_in_order (property_keys t.properties))) }
+    ensures meant { IfOk result (λ ks. IfSome (object_at w.now o) (λ t. keys_in w.now ks.items ≡ own_keys t)) }
     ensures within { IfOk result (λ ks. All (KeyIn w.now) ks.items) }
 {
     w.cell(o).props.keys_in_order()
