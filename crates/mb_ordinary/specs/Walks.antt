@@ -58,7 +58,7 @@ abbrev pub VisitIn : Data → Visit → Type 0
 VisitIn d (Onward x) = ValueIn d x
 VisitIn d _ = Unit {0}
 
--- no other cell than o itself stands for what o stands for
+-- the object behind x stands for what o does only where it is o
 abbrev pub TellsReal : Data → ObjId → ObjId → Type 0
 TellsReal d o x = object_in (names_of d) (real d x) ≡ object_in (names_of d) o → real d x ≡ o
 
