@@ -18,7 +18,26 @@ BuiltIns.ErrorsAndFunctions BuiltIns.Arrays BuiltIns.ArrayMembers BuiltIns.Proxy
 Nodes.Functions Nodes Meaning""".split()
 WORDS = """give is_value truth yes_or_no ends throw pass outcome answer again pay turn pay_each look value flag property keys make
 make_symbol fail type_error range_error reference_error or_type_error unless_type_error log""".split()
-BY_HAND = ["alter", "add_scope", "with_job", "giving"]
+# the modules with what is written by hand
+BY_HAND = {
+    "Words": "add_scope with_job giving",
+    "Made": "make_constructor make_function fromdesc",
+    "Defined": "settled stored_in store_element define_on prop_defined must_define freeze_found flag_row revoke_proxy",
+    "Methods": """prototype_set walk_from walk_at walk_row walk_unless ordinary_set_prototype ordinary_delete ordinary ruled method
+trap_got proxy_method perform_kind perform_thing perform_row""",
+    "Slots": "pair_stored pair_deleted access_slots access_kind access_thing access_row",
+    "Descriptors": "todesc_from todesc",
+    "Defining": "object_define object_define_property reflect_define",
+    "Stored": """elements fresh_array map_found map_each map_row filter_kept filter_called filter_found filter_each filter_row
+slice_found slice_each slice array_literal""",
+}
+BY_HAND = {name: module for module, names in BY_HAND.items() for name in names.split()} | {"alter": "Words"}
+# what the lemmas of some definitions ask, where the definition's arguments answer it at once
+ASKS = {"prop_defined": "refl", "must_define": "(λ _. refl)", "flag_row": "(λ _. tt)"}
+# the words that have a task done, which must fit
+TASKS = "outcome answer again value flag property keys".split()
+# a row that stores into an array which it just made
+LITERAL = "make_array c.side []", "elements c a 0 ns"
 
 
 class Definition:
@@ -106,8 +125,13 @@ HOME = {d.name: m for m in MODULES for d in FOUND[m].values() if d.is_row()}
 class Clause:
     """One clause; `given` are the proofs of its arguments that are parts of rows."""
 
-    def __init__(self, given):
-        self.given = given
+    def __init__(self, given, fits):
+        self.given, self.fits = given, fits
+
+    def fit(self, task):
+        """That a task fits."""
+        task = bare(task)
+        return self.fits.get(task, "(λ _ _. %s)" % ("refl" if "DefineOwnProperty" in task else "tt"))
 
     def body(self, first, rest):
         if first != "do":
@@ -125,6 +149,8 @@ class Clause:
         if len(lines) == 1:
             return self.part(lines[0])
         name, step = re.match(r"(\S+) ← (.*)$", lines[0]).groups()
+        if (step, lines[1]) == LITERAL:
+            return "(%s) >>= (λ %s. %s)" % (step, name, lines[1]), "keeps-array_literal kept c ns"
         after, proof = self.steps(lines[1:])
         return ("(%s) >>= (λ %s. %s)" % (step, name, after),
                 "keeps->>= kept (%s) (λ %s. %s) (%s) (λ %s. %s)" % (step, name, after, self.part(step)[1], name, proof))
@@ -146,6 +172,13 @@ class Clause:
             arguments = self.with_proofs(FOUND[HOME[head]][head], arguments)
         elif head not in WORDS:
             raise SystemExit("no lemma for %s" % text)
+        if head in TASKS:
+            arguments = arguments + [self.fit(arguments[0])]
+        if head == "make":
+            thing, *rest = pieces(bare(arguments[0]))
+            arguments = arguments + ["(%s)" % " ".join(["new-" + thing] + rest + (["refl"] if thing == "new_thing" else []))]
+        if head in ASKS:
+            arguments = arguments + [ASKS[head]]
         return text, " ".join(["keeps-" + head, "kept"] + arguments)
 
     def change(self, text):
@@ -160,6 +193,8 @@ class Clause:
         out = []
         for argument, type_ in zip(arguments, types):
             out.append(argument)
+            if type_ == "Task":
+                out.append(self.fit(argument))
             if "Does" in type_:
                 function = re.match(r"λ ([^.]*)\. (.*)$", bare(argument))
                 out.append("(λ %s. %s)" % (function.group(1), self.part(function.group(2))[1]) if function
@@ -168,7 +203,7 @@ class Clause:
 
 
 def lemma(definition):
-    signature, names, parts = ["(kept : Kept)"], [], []
+    signature, names, parts, tasks = ["(kept : Kept)"], [], [], []
     for given, type_, implicit in definition.arguments:
         if implicit:
             signature.append("{%s : %s}" % (" ".join(given), type_))
@@ -176,6 +211,9 @@ def lemma(definition):
         for _ in given:
             x = "x%d" % len(names)
             signature.append("(%s : %s)" % (x, type_))
+            if type_ == "Task":
+                tasks.append(len(names))
+                signature.append("(p%d : (g : Graph) → kept.cares → Fits %s g)" % (len(names), x))
             if "Does" in type_:
                 parts.append(len(names))
                 taken = split(bare(type_), "→")[:-1]
@@ -185,13 +223,16 @@ def lemma(definition):
             names.append(x)
     out = wide("pub keeps-%s : %s → Goes kept (%s)" % (definition.name, " ".join(signature), " ".join([definition.name] + names)))
     for patterns, first, rest in definition.clauses:
-        shown, given = [], {}
+        shown, given, fits = [], {}, {}
         for i, pattern in enumerate(pieces(patterns) + names[len(pieces(patterns)):]):
             shown.append(pattern)
             if i in parts:
                 shown.append("_" if pattern == "_" else "keeps-" + pattern)
                 given[pattern] = "keeps-" + pattern
-        proof = Clause(given).body(first, rest)[1]
+            if i in tasks:
+                shown.append("fits-" + pattern)
+                fits[pattern] = "fits-" + pattern
+        proof = Clause(given, fits).body(first, rest)[1]
         out += wide("keeps-%s kept %s = %s" % (definition.name, " ".join(shown), proof))
     return out
 
@@ -222,12 +263,18 @@ def imports(module, body):
     for block in re.findall(r"^pub data .*? where\n((?:  .*\n)+)", text, re.M):
         own += re.findall(r"^  (\w+) :", block, re.M)
     lines["Rattle.mb_model.specs." + module] = own + list(FOUND[module])
+    lines["Rattle.mb_model.specs.Fitting"] = ["Fits"]
+    lines.setdefault("Rattle.mb_world.specs.Graph", []).append("Graph")
+    lines["Rattle.std.proofs.Common"] = ["refl"]
     lines["Rattle.mb_model.proofs.Kept.Words"] = ["Kept", "Goes"]
+    lines["Rattle.mb_model.proofs.Kept.Made"] = sorted(set(re.findall(r"(?<=\()new-[^\s()]+", body)))
     for lemma_ in sorted(set(re.findall(r"keeps-[^\s()]+", body))):
         name = lemma_[6:]
-        if name in HOME and HOME[name] != module and name not in BY_HAND:
+        if name in BY_HAND:
+            lines.setdefault("Rattle.mb_model.proofs.Kept." + BY_HAND[name], []).append(lemma_)
+        elif name in HOME and HOME[name] != module:
             lines.setdefault("Rattle.mb_model.proofs.Kept." + HOME[name].replace(".", ""), []).append(lemma_)
-        elif name in WORDS + BY_HAND + [">>=", "if"]:
+        elif name in WORDS + [">>=", "if"]:
             lines["Rattle.mb_model.proofs.Kept.Words"].append(lemma_)
     out = "".join(line + "\n" for line in re.findall(r"^use \S+ as \w+$", text, re.M))
     for path, names in lines.items():

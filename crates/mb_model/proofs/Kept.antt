@@ -1,4 +1,12 @@
+pub mod Changes
 pub mod Words
+pub mod Made
+pub mod Defined
+pub mod Descriptors
+pub mod Defining
+pub mod Methods
+pub mod Slots
+pub mod Stored
 pub mod BuiltIns
 pub mod BuiltInsArguments
 pub mod BuiltInsArrayMembers
@@ -9,7 +17,6 @@ pub mod BuiltInsErrorsAndFunctions
 pub mod BuiltInsObjectMembers
 pub mod BuiltInsProxyMaking
 pub mod BuiltInsReflectMembers
-pub mod Meaning
 pub mod Nodes
 pub mod NodesAssignments
 pub mod NodesBinaryOperators

@@ -1,4 +1,5 @@
 pub mod Engine
+pub mod Fitting
 pub mod Task
 pub mod Writing
 pub mod Operations

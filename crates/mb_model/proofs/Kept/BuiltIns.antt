@@ -10,11 +10,13 @@ use Rattle.mb_model.proofs.Kept.Words.{Kept, Goes}
 use Rattle.mb_model.proofs.Kept.BuiltInsArrays.{keeps-array_fn, keeps-is_array_row}
 use Rattle.mb_model.proofs.Kept.BuiltInsCollections.{keeps-chained_member, keeps-collection_fn, keeps-for_each_pair, keeps-truth_member, keeps-value_member}
 use Rattle.mb_model.proofs.Kept.BuiltInsErrorsAndFunctions.{keeps-error_fn, keeps-function_apply, keeps-function_call}
-use Rattle.mb_model.proofs.Kept.BuiltInsArrayMembers.{keeps-filter_row, keeps-for_each_row, keeps-index_of_row, keeps-join, keeps-map_row, keeps-pop, keeps-push, keeps-reduce_row, keeps-slice}
-use Rattle.mb_model.proofs.Kept.BuiltInsObjectMembers.{keeps-get_own_descriptor, keeps-get_prototype_of, keeps-has_own, keeps-is_frozen, keeps-object_create, keeps-object_define_property, keeps-object_fn, keeps-object_keys, keeps-object_set_prototype_of, keeps-own_symbols, keeps-settle}
+use Rattle.mb_model.proofs.Kept.Stored.{keeps-filter_row, keeps-map_row, keeps-slice}
+use Rattle.mb_model.proofs.Kept.BuiltInsArrayMembers.{keeps-for_each_row, keeps-index_of_row, keeps-join, keeps-pop, keeps-push, keeps-reduce_row}
+use Rattle.mb_model.proofs.Kept.BuiltInsObjectMembers.{keeps-get_own_descriptor, keeps-get_prototype_of, keeps-has_own, keeps-is_frozen, keeps-object_create, keeps-object_fn, keeps-object_keys, keeps-object_set_prototype_of, keeps-own_symbols, keeps-settle}
 use Rattle.mb_model.proofs.Kept.BuiltInsBasics.{keeps-labelled, keeps-later, keeps-print_each, keeps-string, keeps-symbol}
+use Rattle.mb_model.proofs.Kept.Defining.{keeps-object_define_property, keeps-reflect_define}
 use Rattle.mb_model.proofs.Kept.BuiltInsProxyMaking.{keeps-proxy_fn, keeps-revocable}
-use Rattle.mb_model.proofs.Kept.BuiltInsReflectMembers.{keeps-reflect_apply, keeps-reflect_construct, keeps-reflect_define, keeps-reflect_delete, keeps-reflect_get, keeps-reflect_has, keeps-reflect_is_extensible, keeps-reflect_own_keys, keeps-reflect_prevent, keeps-reflect_set, keeps-reflect_set_prototype}
+use Rattle.mb_model.proofs.Kept.BuiltInsReflectMembers.{keeps-reflect_apply, keeps-reflect_construct, keeps-reflect_delete, keeps-reflect_get, keeps-reflect_has, keeps-reflect_is_extensible, keeps-reflect_own_keys, keeps-reflect_prevent, keeps-reflect_set, keeps-reflect_set_prototype}
 use Rattle.mb_model.proofs.Kept.BuiltInsArguments.{keeps-undefined}
 
 -- what the parts of these rows keep (written by tools/kept.py)

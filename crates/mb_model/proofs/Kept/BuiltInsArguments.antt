@@ -2,12 +2,12 @@ use Rattle.std.specs.Prelude.{ℕ, List, ◌||◌, codes}
 use Rattle.mb_world.specs.Value.{Val, Undefined, same_value, is_object, is_undefined}
 use Rattle.mb_world.specs.Key.{Named}
 use Rattle.mb_world.specs.Objects.{is_callable, is_constructor}
-use Rattle.mb_model.specs.Task.{Method, Value}
-use Rattle.mb_model.specs.Writing.{give, look, flag, perform, unless_type_error, truth}
+use Rattle.mb_model.specs.Task.{Value}
+use Rattle.mb_model.specs.Writing.{◌>>=◌, give, look, unless_type_error}
 use Rattle.mb_model.specs.Operations.Makings.{make_array}
 use Rattle.mb_model.specs.Operations.Calls.{get}
-use Rattle.mb_model.specs.BuiltIns.Arguments.{arg, key_arg, need_object, need_callable, need_constructor, undefined, flag_row, prototype_or, asked_prototype, made_prototype, array_of}
-use Rattle.mb_model.proofs.Kept.Words.{Kept, Goes, keeps->>=, keeps-flag, keeps-give, keeps-if, keeps-look, keeps-truth, keeps-unless_type_error}
+use Rattle.mb_model.specs.BuiltIns.Arguments.{arg, key_arg, need_object, need_callable, need_constructor, undefined, prototype_or, asked_prototype, made_prototype, array_of}
+use Rattle.mb_model.proofs.Kept.Words.{Kept, Goes, keeps->>=, keeps-give, keeps-if, keeps-look, keeps-unless_type_error}
 use Rattle.mb_model.proofs.Kept.OperationsCalls.{keeps-get}
 use Rattle.mb_model.proofs.Kept.OperationsMakings.{keeps-make_array}
 use Rattle.mb_model.proofs.Kept.OperationsConversions.{keeps-to_key}
@@ -29,11 +29,7 @@ keeps-need_constructor kept s f = keeps->>= kept (look (λ g. is_constructor g f
     (keeps-look kept (λ g. is_constructor g f)) (λ c. keeps-unless_type_error kept s c)
 
 pub keeps-undefined : (kept : Kept) → Goes kept (undefined)
-keeps-undefined kept = keeps-give kept (Value Undefined)
-
-pub keeps-flag_row : (kept : Kept) (x0 : ℕ) (x1 : Method) (x2 : Val) → Goes kept (flag_row x0 x1 x2)
-keeps-flag_row kept s m o = keeps->>= kept (flag (perform s m o)) (λ b. truth b) (keeps-flag kept (perform s m o))
-    (λ b. keeps-truth kept b)
+keeps-undefined kept  = keeps-give kept (Value Undefined)
 
 pub keeps-asked_prototype : (kept : Kept) (x0 : ℕ) (x1 : Val) (x2 : Val) → Goes kept (asked_prototype x0 x1 x2)
 keeps-asked_prototype kept s default target = keeps->>= kept (get s target (Named (codes "prototype"))) (λ p. give

@@ -1,19 +1,17 @@
 use Rattle.std.specs.Prelude.{if◌then◌else◌, ℕ, zero, suc, ◌+◌, ◌-◌, ◌/◌, List, [], ◌∷◌, ◌++◌, length, Bool, nat_lt, nat_le, Option, Some, None, slice_get, negsuc}
-use Rattle.mb_world.specs.Value.{Val, Undefined, Whole, Text, same_value, is_undefined, is_nullish, to_boolean, whole_of}
+use Rattle.mb_world.specs.Value.{Val, Undefined, Whole, Text, same_value, is_undefined, is_nullish, whole_of}
 use Rattle.mb_world.specs.Arrays.{index_key, length_key}
 use Rattle.mb_model.specs.Task.{Delete, Answer, Nothing, Value}
 use Rattle.mb_model.specs.Writing.{Does, ◌>>=◌, give, pay, flag, perform, type_error, range_error, unless_type_error, or_type_error}
-use Rattle.mb_model.specs.Objects.Methods.{store_element}
 use Rattle.mb_model.specs.Operations.Conversions.{text_by, text_limit, whole_limit}
 use Rattle.mb_model.specs.Operations.Calls.{get, call, putv}
 use Rattle.mb_model.specs.BuiltIns.Arguments.{arg, need_callable, undefined}
-use Rattle.mb_model.specs.BuiltIns.Arrays.{array_start, each_turn, place_value, fresh_array}
-use Rattle.mb_model.specs.BuiltIns.ArrayMembers.{push_each, push, pop_deleted, pop_got, pop_from, pop, callback, for_each_found, for_each, for_each_row, map_found, map_each, map_row, filter_kept, filter_called, filter_found, filter_each, filter_row, reduce_found, reduced, reduce_each, reduce_row, clamped, index_arg, index_found, index_each, index_of_row, slice_found, slice_each, slice, join_text, join_add, join_got, separator_at, join_each, separator, join}
+use Rattle.mb_model.specs.BuiltIns.Arrays.{array_start, each_turn, place_value}
+use Rattle.mb_model.specs.BuiltIns.ArrayMembers.{push_each, push, pop_deleted, pop_got, pop_from, pop, callback, for_each_found, for_each, for_each_row, reduce_found, reduced, reduce_each, reduce_row, clamped, index_arg, index_found, index_each, index_of_row, join_text, join_add, join_got, separator_at, join_each, separator, join}
 use Rattle.mb_model.proofs.Kept.Words.{Kept, Goes, keeps->>=, keeps-flag, keeps-give, keeps-if, keeps-or_type_error, keeps-pay, keeps-range_error, keeps-type_error, keeps-unless_type_error}
-use Rattle.mb_model.proofs.Kept.BuiltInsArrays.{keeps-array_start, keeps-each_turn, keeps-fresh_array}
+use Rattle.mb_model.proofs.Kept.BuiltInsArrays.{keeps-array_start, keeps-each_turn}
 use Rattle.mb_model.proofs.Kept.OperationsCalls.{keeps-call, keeps-get, keeps-putv}
 use Rattle.mb_model.proofs.Kept.BuiltInsArguments.{keeps-need_callable, keeps-undefined}
-use Rattle.mb_model.proofs.Kept.ObjectsMethods.{keeps-store_element}
 use Rattle.mb_model.proofs.Kept.OperationsConversions.{keeps-text_by}
 
 -- what the parts of these rows keep (written by tools/kept.py)
@@ -39,7 +37,7 @@ keeps-pop_deleted kept s o n v b = keeps->>= kept (unless_type_error s b) (λ _.
 
 pub keeps-pop_got : (kept : Kept) (x0 : ℕ) (x1 : Val) (x2 : ℕ) (x3 : Val) → Goes kept (pop_got x0 x1 x2 x3)
 keeps-pop_got kept s o n v = keeps->>= kept (flag (perform s (Delete (index_key n)) o)) (λ b. pop_deleted s o n v
-    b) (keeps-flag kept (perform s (Delete (index_key n)) o)) (λ b. keeps-pop_deleted kept s o n v b)
+    b) (keeps-flag kept (perform s (Delete (index_key n)) o) (λ _ _. tt)) (λ b. keeps-pop_deleted kept s o n v b)
 
 pub keeps-pop_from : (kept : Kept) (x0 : ℕ) (x1 : Val) (x2 : ℕ) → Goes kept (pop_from x0 x1 x2)
 keeps-pop_from kept s o zero = keeps->>= kept (putv s o length_key (place_value 0)) (λ _. undefined) (keeps-putv
@@ -74,59 +72,6 @@ keeps-for_each_row kept s o vs = keeps->>= kept (array_start s o) (λ n. (need_c
     for_each s o (arg vs 0) (arg vs 1) n 0)) (keeps-array_start kept s o) (λ n. keeps->>= kept (need_callable s
     (arg vs 0)) (λ _. for_each s o (arg vs 0) (arg vs 1) n 0) (keeps-need_callable kept s (arg vs 0)) (λ _.
     keeps-for_each kept s o (arg vs 0) (arg vs 1) n 0))
-
-pub keeps-map_found : (kept : Kept) (x0 : ℕ) (x1 : Val) (x2 : Val) (x3 : Val) (x4 : Val) (x5 : ℕ) (x6 : Option Val)
-    → Goes kept (map_found x0 x1 x2 x3 x4 x5 x6)
-keeps-map_found kept s o f this a k None = keeps-give kept Nothing
-keeps-map_found kept s o f this a k (Some v) = keeps->>= kept (callback s f this v k o) (λ w. store_element s a k
-    w) (keeps-callback kept s f this v k o) (λ w. keeps-store_element kept s a k w)
-
-pub keeps-map_each : (kept : Kept) (x0 : ℕ) (x1 : Val) (x2 : Val) (x3 : Val) (x4 : Val) (x5 : ℕ) (x6 : ℕ) → Goes
-    kept (map_each x0 x1 x2 x3 x4 x5 x6)
-keeps-map_each kept s o f this a zero k = keeps-give kept (Value a)
-keeps-map_each kept s o f this a (suc n) k = keeps->>= kept (each_turn s o k) (λ v. (map_found s o f this a k v)
-    >>= (λ _. map_each s o f this a n (k + 1))) (keeps-each_turn kept s o k) (λ v. keeps->>= kept (map_found s o f
-    this a k v) (λ _. map_each s o f this a n (k + 1)) (keeps-map_found kept s o f this a k v) (λ _. keeps-map_each
-    kept s o f this a n (k + 1)))
-
-pub keeps-map_row : (kept : Kept) (x0 : ℕ) (x1 : Val) (x2 : List Val) → Goes kept (map_row x0 x1 x2)
-keeps-map_row kept s o vs = keeps->>= kept (array_start s o) (λ n. (need_callable s (arg vs 0)) >>= (λ _.
-    (fresh_array s n) >>= (λ a. map_each s o (arg vs 0) (arg vs 1) a n 0))) (keeps-array_start kept s o) (λ n.
-    keeps->>= kept (need_callable s (arg vs 0)) (λ _. (fresh_array s n) >>= (λ a. map_each s o (arg vs 0) (arg vs
-    1) a n 0)) (keeps-need_callable kept s (arg vs 0)) (λ _. keeps->>= kept (fresh_array s n) (λ a. map_each s o
-    (arg vs 0) (arg vs 1) a n 0) (keeps-fresh_array kept s n) (λ a. keeps-map_each kept s o (arg vs 0) (arg vs 1) a
-    n 0)))
-
-pub keeps-filter_kept : (kept : Kept) (x0 : ℕ) (x1 : Val) (x2 : Val) (x3 : ℕ) → Goes kept (filter_kept x0 x1 x2 x3)
-keeps-filter_kept kept s a v count = keeps->>= kept (store_element s a count v) (λ _. give (count + 1))
-    (keeps-store_element kept s a count v) (λ _. keeps-give kept (count + 1))
-
-pub keeps-filter_called : (kept : Kept) (x0 : ℕ) (x1 : Val) (x2 : Val) (x3 : ℕ) (x4 : Val) → Goes kept
-    (filter_called x0 x1 x2 x3 x4)
-keeps-filter_called kept s a v count w = keeps-if kept (to_boolean w) (filter_kept s a v count) (give count)
-    (keeps-filter_kept kept s a v count) (keeps-give kept count)
-
-pub keeps-filter_found : (kept : Kept) (x0 : ℕ) (x1 : Val) (x2 : Val) (x3 : Val) (x4 : Val) (x5 : ℕ) (x6 : ℕ) (x7 :
-    Option Val) → Goes kept (filter_found x0 x1 x2 x3 x4 x5 x6 x7)
-keeps-filter_found kept s o f this a k count None = keeps-give kept count
-keeps-filter_found kept s o f this a k count (Some v) = keeps->>= kept (callback s f this v k o) (λ w.
-    filter_called s a v count w) (keeps-callback kept s f this v k o) (λ w. keeps-filter_called kept s a v count w)
-
-pub keeps-filter_each : (kept : Kept) (x0 : ℕ) (x1 : Val) (x2 : Val) (x3 : Val) (x4 : Val) (x5 : ℕ) (x6 : ℕ) (x7 :
-    ℕ) → Goes kept (filter_each x0 x1 x2 x3 x4 x5 x6 x7)
-keeps-filter_each kept s o f this a zero k count = keeps-give kept (Value a)
-keeps-filter_each kept s o f this a (suc n) k count = keeps->>= kept (each_turn s o k) (λ v. (filter_found s o f
-    this a k count v) >>= (λ c. filter_each s o f this a n (k + 1) c)) (keeps-each_turn kept s o k) (λ v. keeps->>=
-    kept (filter_found s o f this a k count v) (λ c. filter_each s o f this a n (k + 1) c) (keeps-filter_found kept
-    s o f this a k count v) (λ c. keeps-filter_each kept s o f this a n (k + 1) c))
-
-pub keeps-filter_row : (kept : Kept) (x0 : ℕ) (x1 : Val) (x2 : List Val) → Goes kept (filter_row x0 x1 x2)
-keeps-filter_row kept s o vs = keeps->>= kept (array_start s o) (λ n. (need_callable s (arg vs 0)) >>= (λ _.
-    (fresh_array s 0) >>= (λ a. filter_each s o (arg vs 0) (arg vs 1) a n 0 0))) (keeps-array_start kept s o) (λ n.
-    keeps->>= kept (need_callable s (arg vs 0)) (λ _. (fresh_array s 0) >>= (λ a. filter_each s o (arg vs 0) (arg
-    vs 1) a n 0 0)) (keeps-need_callable kept s (arg vs 0)) (λ _. keeps->>= kept (fresh_array s 0) (λ a.
-    filter_each s o (arg vs 0) (arg vs 1) a n 0 0) (keeps-fresh_array kept s 0) (λ a. keeps-filter_each kept s o
-    (arg vs 0) (arg vs 1) a n 0 0)))
 
 pub keeps-reduce_found : (kept : Kept) (x0 : ℕ) (x1 : Val) (x2 : Val) (x3 : ℕ) (x4 : Option Val) (x5 : Option Val)
     → Goes kept (reduce_found x0 x1 x2 x3 x4 x5)
@@ -177,29 +122,6 @@ keeps-index_of_row kept s o vs = keeps->>= kept (array_start s o) (λ n. (index_
     index_each s o (arg vs 0) (n - from) from)) (keeps-array_start kept s o) (λ n. keeps->>= kept (index_arg s 0 n
     (arg vs 1)) (λ from. index_each s o (arg vs 0) (n - from) from) (keeps-index_arg kept s 0 n (arg vs 1)) (λ
     from. keeps-index_each kept s o (arg vs 0) (n - from) from))
-
-pub keeps-slice_found : (kept : Kept) (x0 : ℕ) (x1 : Val) (x2 : ℕ) (x3 : Option Val) → Goes kept (slice_found x0 x1
-    x2 x3)
-keeps-slice_found kept s a k None = keeps-give kept Nothing
-keeps-slice_found kept s a k (Some v) = keeps-store_element kept s a k v
-
-pub keeps-slice_each : (kept : Kept) (x0 : ℕ) (x1 : Val) (x2 : Val) (x3 : ℕ) (x4 : ℕ) (x5 : ℕ) → Goes kept
-    (slice_each x0 x1 x2 x3 x4 x5)
-keeps-slice_each kept s o a zero from k = keeps-give kept (Value a)
-keeps-slice_each kept s o a (suc n) from k = keeps->>= kept (each_turn s o (from + k)) (λ v. (slice_found s a k v)
-    >>= (λ _. slice_each s o a n from (k + 1))) (keeps-each_turn kept s o (from + k)) (λ v. keeps->>= kept
-    (slice_found s a k v) (λ _. slice_each s o a n from (k + 1)) (keeps-slice_found kept s a k v) (λ _.
-    keeps-slice_each kept s o a n from (k + 1)))
-
-pub keeps-slice : (kept : Kept) (x0 : ℕ) (x1 : Val) (x2 : List Val) → Goes kept (slice x0 x1 x2)
-keeps-slice kept s o vs = keeps->>= kept (array_start s o) (λ n. (index_arg s 0 n (arg vs 0)) >>= (λ from.
-    (index_arg s n n (arg vs 1)) >>= (λ to. (fresh_array s (to - from)) >>= (λ a. slice_each s o a (to - from) from
-    0)))) (keeps-array_start kept s o) (λ n. keeps->>= kept (index_arg s 0 n (arg vs 0)) (λ from. (index_arg s n n
-    (arg vs 1)) >>= (λ to. (fresh_array s (to - from)) >>= (λ a. slice_each s o a (to - from) from 0)))
-    (keeps-index_arg kept s 0 n (arg vs 0)) (λ from. keeps->>= kept (index_arg s n n (arg vs 1)) (λ to.
-    (fresh_array s (to - from)) >>= (λ a. slice_each s o a (to - from) from 0)) (keeps-index_arg kept s n n (arg vs
-    1)) (λ to. keeps->>= kept (fresh_array s (to - from)) (λ a. slice_each s o a (to - from) from 0)
-    (keeps-fresh_array kept s (to - from)) (λ a. keeps-slice_each kept s o a (to - from) from 0))))
 
 pub keeps-join_text : (kept : Kept) (x0 : ℕ) (x1 : Val) → Goes kept (join_text x0 x1)
 keeps-join_text kept s v = keeps-if kept (is_nullish v) (give []) (text_by s v) (keeps-give kept []) (keeps-text_by

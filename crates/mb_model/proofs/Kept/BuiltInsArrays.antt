@@ -7,8 +7,9 @@ use Rattle.mb_model.specs.Writing.{◌>>=◌, give, pay, flag, perform, make, ra
 use Rattle.mb_model.specs.Operations.Makings.{array_thing}
 use Rattle.mb_model.specs.Operations.Calls.{get, length_of, is_array}
 use Rattle.mb_model.specs.BuiltIns.Arguments.{need_object, made_prototype}
-use Rattle.mb_model.specs.BuiltIns.Arrays.{array_make, array_filled, array_from, array_fn, is_array_row, array_start, element_found, each_turn, fresh_array}
+use Rattle.mb_model.specs.BuiltIns.Arrays.{array_make, array_filled, array_from, array_fn, is_array_row, array_start, element_found, each_turn}
 use Rattle.mb_model.proofs.Kept.Words.{Kept, Goes, keeps->>=, keeps-flag, keeps-give, keeps-if, keeps-make, keeps-pay, keeps-range_error, keeps-truth}
+use Rattle.mb_model.proofs.Kept.Made.{new-array_thing}
 use Rattle.mb_model.proofs.Kept.OperationsCalls.{keeps-get, keeps-is_array, keeps-length_of}
 use Rattle.mb_model.proofs.Kept.BuiltInsArguments.{keeps-made_prototype, keeps-need_object}
 
@@ -16,11 +17,12 @@ use Rattle.mb_model.proofs.Kept.BuiltInsArguments.{keeps-made_prototype, keeps-n
 
 pub keeps-array_make : (kept : Kept) (x0 : ℕ) (x1 : ℕ) (x2 : Val) → Goes kept (array_make x0 x1 x2)
 keeps-array_make kept s n p = keeps->>= kept (make (array_thing s p n [])) (λ a. give (Value a)) (keeps-make kept
-    (array_thing s p n [])) (λ a. keeps-give kept (Value a))
+    (array_thing s p n []) (new-array_thing s p n [])) (λ a. keeps-give kept (Value a))
 
 pub keeps-array_filled : (kept : Kept) (x0 : ℕ) (x1 : List Val) (x2 : Val) → Goes kept (array_filled x0 x1 x2)
 keeps-array_filled kept s vs p = keeps->>= kept (make (array_thing s p (length vs) vs)) (λ a. give (Value a))
-    (keeps-make kept (array_thing s p (length vs) vs)) (λ a. keeps-give kept (Value a))
+    (keeps-make kept (array_thing s p (length vs) vs) (new-array_thing s p (length vs) vs)) (λ a. keeps-give kept
+    (Value a))
 
 pub keeps-array_from : (kept : Kept) (x0 : ℕ) (x1 : List Val) (x2 : Val) → Goes kept (array_from x0 x1 x2)
 keeps-array_from kept s (Whole (pos n) ∷ []) p = keeps-if kept (nat_le n length_limit) (array_make s n p)
@@ -50,8 +52,4 @@ pub keeps-each_turn : (kept : Kept) (x0 : ℕ) (x1 : Val) (x2 : ℕ) → Goes ke
 keeps-each_turn kept s o k = keeps->>= kept (pay 1) (λ _. (flag (perform s (HasProperty (index_key k)) o)) >>= (λ
     there. element_found s o k there)) (keeps-pay kept 1) (λ _. keeps->>= kept (flag (perform s (HasProperty
     (index_key k)) o)) (λ there. element_found s o k there) (keeps-flag kept (perform s (HasProperty (index_key k))
-    o)) (λ there. keeps-element_found kept s o k there))
-
-pub keeps-fresh_array : (kept : Kept) (x0 : ℕ) (x1 : ℕ) → Goes kept (fresh_array x0 x1)
-keeps-fresh_array kept s n = keeps-if kept (nat_le n length_limit) (make (array_thing s array_prototype n []))
-    (range_error s) (keeps-make kept (array_thing s array_prototype n [])) (keeps-range_error kept s)
+    o) (λ _ _. tt)) (λ there. keeps-element_found kept s o k there))

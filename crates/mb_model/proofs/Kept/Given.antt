@@ -4,24 +4,33 @@ use Rattle.mb_world.specs.Graph.{Graph}
 use Rattle.mb_model.specs.Engine.{Gives, Spent, state_of}
 use Rattle.mb_model.specs.Task.{Task}
 use Rattle.mb_model.specs.Meaning.{Ends, Means, KeepsGiven}
-use Rattle.mb_model.proofs.Kept.Words.{Kept}
+use Rattle.mb_model.specs.Fitting.{Fits}
+use Rattle.mb_model.proofs.Kept.Words.{Kept, beside-objects}
 use Rattle.mb_model.proofs.Kept.Rows.{EndHolds, means-holds}
 
 -- no row changes what the run was given
 
-abbrev given_by : Graph → Kept
-given_by g = record {
-  holds = λ h. KeepsGiven g h;
-  objects = λ h ts k. k;
-  symbols = λ h ds k. k;
-  scopes = λ h ss k. k;
-  log = λ h is k. k;
-  job = λ h s v k. (k.0, k.1, k.2, length-set h.queues s _ ∙ k.3);
+abbrev given_by : Kept
+given_by = record {
+  cares = ⊥;
+  to = KeepsGiven;
+  stays = λ f g k. (refl, refl, refl, refl);
+  goes_on = λ f g h k l. (l.0 ∙ k.0, l.1 ∙ k.1, l.2 ∙ k.2, l.3 ∙ k.3);
+  made = λ f g t new k. k;
+  moved = λ f g o t u at by k. beside-objects (KeepsGiven f) g o u (λ ts. k) k;
+  symbols = λ f g ds k. k;
+  scopes = λ f g ss k. k;
+  log = λ f g is k. k;
+  job = λ f g s v k. (k.0, k.1, k.2, length-set g.queues s _ ∙ k.3);
 }
 
-at-end : (kept : Kept) (r : Ends) → EndHolds kept r → kept.holds (state_of r)
-at-end kept (Gives o s f) h = h
-at-end kept (Spent s f) h = h
+at-end : (kept : Kept) (b : Graph) (r : Ends) → EndHolds kept b r → kept.to b (state_of r)
+at-end kept b (Gives o s f) h = h
+at-end kept b (Spent s f) h = h
+
+-- what a task that fits goes on along
+pub means-goes : (kept : Kept) (t : Task) (g : Graph) (f : ℕ) → (kept.cares → Fits t g) → kept.to g g → kept.to g (state_of (Means t g f))
+means-goes kept t g f fit h = at-end kept g (Means t g f) (means-holds kept t g f fit h)
 
 pub keeps-given : (t : Task) (g : Graph) (f : ℕ) → KeepsGiven g (state_of (Means t g f))
-keeps-given t g f = at-end (given_by g) (Means t g f) (means-holds (given_by g) t g f (refl, refl, refl, refl))
+keeps-given t g f = means-goes given_by t g f (λ c. absurd c) (refl, refl, refl, refl)

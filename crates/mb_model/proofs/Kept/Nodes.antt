@@ -3,26 +3,28 @@ use Rattle.mb_world.specs.Value.{Undefined, Whole, Text, to_boolean}
 use Rattle.mb_world.specs.Form.{Form, ScriptForm, LetForm, ConstForm, DeclForm, FunctionDeclForm, BlockForm, EmptyForm, ExprStmtForm, IfForm, WhileForm, DoWhileForm, ForForm, ReturnForm, ThrowForm, BreakForm, ContinueForm, TryForm, ParamForm, ThisForm, NameForm, NumberForm, TextForm, LiteralForm, ArrayForm, ObjectForm, ValueForm, MethodForm, GetterForm, SetterForm, FunctionForm, ArrowForm, GroupForm, MemberForm, IndexForm, AssignForm, CompoundForm, UpdateForm, CallForm, NewForm, CondForm, OrForm, AndForm, SeqForm, UnaryForm, BinaryForm}
 use Rattle.mb_world.specs.Standard.{object_prototype}
 use Rattle.mb_model.specs.Task.{Nothing, Break, Continue}
-use Rattle.mb_model.specs.Writing.{outcome, throw, look, is_value}
-use Rattle.mb_model.specs.Operations.Makings.{make_plain, make_array, make_function}
+use Rattle.mb_model.specs.Writing.{outcome, ◌>>=◌, throw, look, is_value}
+use Rattle.mb_model.specs.Operations.Makings.{make_plain, make_function}
 use Rattle.mb_model.specs.Nodes.Scopes.{form_at, read_name, code}
 use Rattle.mb_model.specs.Nodes.Evaluation.{Context, task, eval, branch}
 use Rattle.mb_model.specs.Nodes.Statements.{expr_done, body_ended, while_tested, do_test, tried}
-use Rattle.mb_model.specs.Nodes.Literals.{elements, props}
+use Rattle.mb_model.specs.Nodes.Literals.{props}
 use Rattle.mb_model.specs.Nodes.References.{bare_form, reference, get_reference}
 use Rattle.mb_model.specs.Nodes.BinaryOperators.{left_got}
 use Rattle.mb_model.specs.Nodes.Invocations.{call_row, constructor_got, or_got, and_got}
 use Rattle.mb_model.specs.Nodes.Functions.{body}
 use Rattle.mb_model.specs.Nodes.{node, node_if, node_row}
 use Rattle.mb_model.proofs.Kept.Words.{Kept, Goes, keeps->>=, keeps-answer, keeps-ends, keeps-give, keeps-is_value, keeps-look, keeps-outcome, keeps-throw}
+use Rattle.mb_model.proofs.Kept.Made.{keeps-make_function}
 use Rattle.mb_model.proofs.Kept.NodesInvocations.{keeps-and_got, keeps-call_row, keeps-constructor_got, keeps-or_got, keeps-sequence}
+use Rattle.mb_model.proofs.Kept.Stored.{keeps-array_literal}
 use Rattle.mb_model.proofs.Kept.NodesAssignments.{keeps-assign_row, keeps-compound_row, keeps-update_row}
 use Rattle.mb_model.proofs.Kept.NodesStatements.{keeps-body_ended, keeps-do_test, keeps-expr_done, keeps-for_row, keeps-give_each, keeps-return_row, keeps-run_scoped, keeps-tried, keeps-while_tested}
 use Rattle.mb_model.proofs.Kept.NodesEvaluation.{keeps-branch, keeps-eval}
-use Rattle.mb_model.proofs.Kept.NodesLiterals.{keeps-elements, keeps-function_row, keeps-props}
+use Rattle.mb_model.proofs.Kept.NodesLiterals.{keeps-function_row, keeps-props}
 use Rattle.mb_model.proofs.Kept.NodesReferences.{keeps-get_reference, keeps-reference}
 use Rattle.mb_model.proofs.Kept.NodesBinaryOperators.{keeps-left_got}
-use Rattle.mb_model.proofs.Kept.OperationsMakings.{keeps-make_array, keeps-make_function, keeps-make_plain}
+use Rattle.mb_model.proofs.Kept.OperationsMakings.{keeps-make_plain}
 use Rattle.mb_model.proofs.Kept.NodesScopes.{keeps-read_name}
 use Rattle.mb_model.proofs.Kept.NodesUnaryOperators.{keeps-unary}
 
@@ -41,10 +43,11 @@ keeps-node kept c n (ExprStmtForm e) = keeps->>= kept (eval c e) (λ v. expr_don
 keeps-node kept c n (IfForm test main other) = keeps->>= kept (eval c test) (λ x. branch c main other (to_boolean
     x)) (keeps-eval kept c test) (λ x. keeps-branch kept c main other (to_boolean x))
 keeps-node kept c n (WhileForm test body) = keeps->>= kept (eval c test) (λ x. while_tested c (task c n) body
-    (to_boolean x)) (keeps-eval kept c test) (λ x. keeps-while_tested kept c (task c n) body (to_boolean x))
+    (to_boolean x)) (keeps-eval kept c test) (λ x. keeps-while_tested kept c (task c n) (λ _ _. tt) body
+    (to_boolean x))
 keeps-node kept c n (DoWhileForm body test) = keeps->>= kept (outcome (task c body)) (λ o. body_ended (do_test c
-    (task c n) test) o) (keeps-outcome kept (task c body)) (λ o. keeps-body_ended kept (do_test c (task c n) test)
-    (keeps-do_test kept c (task c n) test) o)
+    (task c n) test) o) (keeps-outcome kept (task c body) (λ _ _. tt)) (λ o. keeps-body_ended kept (do_test c (task
+    c n) test) (keeps-do_test kept c (task c n) (λ _ _. tt) test) o)
 keeps-node kept c n (ForForm first test last body) = keeps-for_row kept c n first test last body
 keeps-node kept c n (ReturnForm e) = keeps-return_row kept c e
 keeps-node kept c n (ThrowForm e) = keeps->>= kept (eval c e) (λ v. throw v) (keeps-eval kept c e) (λ v.
@@ -52,7 +55,7 @@ keeps-node kept c n (ThrowForm e) = keeps->>= kept (eval c e) (λ v. throw v) (k
 keeps-node kept c n BreakForm = keeps-ends kept Break
 keeps-node kept c n ContinueForm = keeps-ends kept Continue
 keeps-node kept c n (TryForm block x h ending) = keeps->>= kept (outcome (task c block)) (λ o. tried c n x h ending
-    o) (keeps-outcome kept (task c block)) (λ o. keeps-tried kept c n x h ending o)
+    o) (keeps-outcome kept (task c block) (λ _ _. tt)) (λ o. keeps-tried kept c n x h ending o)
 keeps-node kept c n (ParamForm x) = keeps-give kept Nothing
 keeps-node kept c n ThisForm = keeps-is_value kept c.this
 keeps-node kept c n (NameForm x) = keeps->>= kept (read_name c.side c.scope x) (λ v. is_value v) (keeps-read_name
@@ -60,8 +63,7 @@ keeps-node kept c n (NameForm x) = keeps->>= kept (read_name c.side c.scope x) (
 keeps-node kept c n (NumberForm z) = keeps-is_value kept (Whole z)
 keeps-node kept c n (TextForm t) = keeps-is_value kept (Text t)
 keeps-node kept c n (LiteralForm v) = keeps-is_value kept v
-keeps-node kept c n (ArrayForm ns) = keeps->>= kept (make_array c.side []) (λ a. elements c a 0 ns)
-    (keeps-make_array kept c.side []) (λ a. keeps-elements kept c a 0 ns)
+keeps-node kept c n (ArrayForm ns) = keeps-array_literal kept c ns
 keeps-node kept c n (ObjectForm ps) = keeps->>= kept (make_plain c.side None object_prototype) (λ o. props c o ps)
     (keeps-make_plain kept c.side None object_prototype) (λ o. keeps-props kept c o ps)
 keeps-node kept c n (ValueForm k e) = keeps-give kept Nothing
@@ -72,7 +74,7 @@ keeps-node kept c n (FunctionForm x parts) = keeps-function_row kept c n parts x
 keeps-node kept c n (ArrowForm parts block) = keeps->>= kept (make_function (code c.side n c.scope false (Some
     c.this)) None (length parts.params) []) (λ f. is_value f) (keeps-make_function kept (code c.side n c.scope
     false (Some c.this)) None (length parts.params) []) (λ f. keeps-is_value kept f)
-keeps-node kept c n (GroupForm e) = keeps-answer kept (task c e)
+keeps-node kept c n (GroupForm e) = keeps-answer kept (task c e) (λ _ _. tt)
 keeps-node kept c n (MemberForm b x) = keeps->>= kept (reference c (Some (MemberForm b x))) (λ r. get_reference c
     r) (keeps-reference kept c (Some (MemberForm b x))) (λ r. keeps-get_reference kept c r)
 keeps-node kept c n (IndexForm b k) = keeps->>= kept (reference c (Some (IndexForm b k))) (λ r. get_reference c r)

@@ -11,7 +11,7 @@ use Rattle.mb_model.specs.Nodes.Functions.{bind_params, this_of, body_next, body
 use Rattle.mb_model.proofs.Kept.Words.{Kept, Goes, keeps->>=, keeps-ends, keeps-give, keeps-is_value, keeps-look, keeps-outcome}
 use Rattle.mb_model.proofs.Kept.NodesScopes.{keeps-declare, keeps-enter_names, keeps-initialize}
 use Rattle.mb_model.proofs.Kept.NodesEvaluation.{keeps-eval}
-use Rattle.mb_model.proofs.Kept.BuiltInsProxyMaking.{keeps-revoke_proxy}
+use Rattle.mb_model.proofs.Kept.Defined.{keeps-revoke_proxy}
 
 -- what the parts of these rows keep (written by tools/kept.py)
 
@@ -33,7 +33,7 @@ keeps-body_next kept more keeps-more Continue = keeps-ends kept Continue
 pub keeps-body : (kept : Kept) (x0 : Context) (x1 : List ℕ) → Goes kept (body x0 x1)
 keeps-body kept c [] = keeps-is_value kept Undefined
 keeps-body kept c (n ∷ ns) = keeps->>= kept (outcome (task c n)) (λ o. body_next (body c ns) o) (keeps-outcome kept
-    (task c n)) (λ o. keeps-body_next kept (body c ns) (keeps-body kept c ns) o)
+    (task c n) (λ _ _. tt)) (λ o. keeps-body_next kept (body c ns) (keeps-body kept c ns) o)
 
 pub keeps-body_or_value : (kept : Kept) (x0 : Context) (x1 : Bool) (x2 : List ℕ) → Goes kept (body_or_value x0 x1 x2)
 keeps-body_or_value kept c true ns = keeps-body kept c ns
@@ -45,34 +45,18 @@ pub keeps-enter_parts : (kept : Kept) (x0 : Code) (x1 : Val) (x2 : List Val) (x3
     : FunctionParts) → Goes kept (enter_parts x0 x1 x2 x3 x4 x5)
 keeps-enter_parts kept k this vs block own parts = keeps->>= kept (look (λ g. bound_names g k.side k.node)) (λ xs.
     (enter_names k.side k.scope (entered_names own xs)) >>= (λ sc. (bind_params sc parts.params vs) >>= (λ _.
-    (declare k.side sc (if block then parts.body else [])) >>= (λ _. body_or_value (record {
-      side = k.side;
-      scope =
-          sc;
-      this = this_of k.bound_this this;
-    }) block parts.body)))) (keeps-look kept (λ g. bound_names g k.side
+    (declare k.side sc (if block then parts.body else [])) >>= (λ _. body_or_value (record { side = k.side; scope =
+    sc; this = this_of k.bound_this this }) block parts.body)))) (keeps-look kept (λ g. bound_names g k.side
     k.node)) (λ xs. keeps->>= kept (enter_names k.side k.scope (entered_names own xs)) (λ sc. (bind_params sc
     parts.params vs) >>= (λ _. (declare k.side sc (if block then parts.body else [])) >>= (λ _. body_or_value
     (record { side = k.side; scope = sc; this = this_of k.bound_this this }) block parts.body))) (keeps-enter_names
     kept k.side k.scope (entered_names own xs)) (λ sc. keeps->>= kept (bind_params sc parts.params vs) (λ _.
-    (declare k.side sc (if block then parts.body else [])) >>= (λ _. body_or_value (record {
-      side = k.side;
-      scope =
-          sc;
-      this = this_of k.bound_this this;
-    }) block parts.body)) (keeps-bind_params kept sc parts.params vs) (λ _.
-    keeps->>= kept (declare k.side sc (if block then parts.body else [])) (λ _. body_or_value (record {
-      side =
-          k.side;
-      scope = sc;
-      this = this_of k.bound_this this;
-    }) block parts.body) (keeps-declare kept k.side sc (if
-    block then parts.body else [])) (λ _. keeps-body_or_value kept (record {
-      side = k.side;
-      scope = sc;
-      this =
-          this_of k.bound_this this;
-    }) block parts.body))))
+    (declare k.side sc (if block then parts.body else [])) >>= (λ _. body_or_value (record { side = k.side; scope =
+    sc; this = this_of k.bound_this this }) block parts.body)) (keeps-bind_params kept sc parts.params vs) (λ _.
+    keeps->>= kept (declare k.side sc (if block then parts.body else [])) (λ _. body_or_value (record { side =
+    k.side; scope = sc; this = this_of k.bound_this this }) block parts.body) (keeps-declare kept k.side sc (if
+    block then parts.body else [])) (λ _. keeps-body_or_value kept (record { side = k.side; scope = sc; this =
+    this_of k.bound_this this }) block parts.body))))
 
 pub keeps-enter_form : (kept : Kept) (x0 : Code) (x1 : Val) (x2 : List Val) (x3 : Option Form) → Goes kept
     (enter_form x0 x1 x2 x3)

@@ -1,34 +1,24 @@
 use Rattle.std.specs.Prelude.{ℕ, ◌+◌, List, [], ◌∷◌, ◌++◌, length, true, false, nat_lt, Option, Some, None, codes}
-use Rattle.mb_desc.specs.declared.descriptor.Desc.{Desc}
 use Rattle.mb_world.specs.Value.{Val}
 use Rattle.mb_world.specs.Key.{PropertyKey, Named}
 use Rattle.mb_world.specs.Form.{PropName, Written, Computed, FunctionParts, Form, ValueForm, MethodForm, GetterForm, SetterForm}
-use Rattle.mb_world.specs.Graph.{Thing}
-use Rattle.mb_world.specs.Objects.{thing_at}
-use Rattle.mb_world.specs.Ordinary.{ordinary_defined}
 use Rattle.mb_world.specs.Symbols.{key_name}
 use Rattle.mb_model.specs.Task.{Nothing}
 use Rattle.mb_model.specs.Writing.{◌>>=◌, pay, look, range_error, is_value}
 use Rattle.mb_model.specs.Operations.Makings.{make_function}
 use Rattle.mb_model.specs.Operations.Conversions.{to_key, text_limit}
-use Rattle.mb_model.specs.Objects.Methods.{store_element}
 use Rattle.mb_model.specs.Nodes.Scopes.{form_at, scope, binding, add_scope, initialize, code}
 use Rattle.mb_model.specs.Nodes.Evaluation.{Context, eval}
-use Rattle.mb_model.specs.Nodes.Literals.{elements, method_function, keyed_function, open_desc, getter_desc, setter_desc, define_on, prop_defined, prop_value, prop_keyed, prop_key, name_of_prop, prop_of, props, function_row}
+use Rattle.mb_model.specs.Nodes.Literals.{method_function, keyed_function, open_desc, getter_desc, setter_desc, prop_defined, prop_value, prop_keyed, prop_key, name_of_prop, prop_of, props, function_row}
+use Rattle.std.proofs.Common.{refl}
 use Rattle.mb_model.proofs.Kept.Words.{Kept, Goes, keeps->>=, keeps-add_scope, keeps-give, keeps-if, keeps-is_value, keeps-look, keeps-pay, keeps-range_error}
+use Rattle.mb_model.proofs.Kept.Made.{keeps-make_function}
 use Rattle.mb_model.proofs.Kept.NodesEvaluation.{keeps-eval}
 use Rattle.mb_model.proofs.Kept.NodesScopes.{keeps-initialize}
-use Rattle.mb_model.proofs.Kept.OperationsMakings.{keeps-make_function}
-use Rattle.mb_model.proofs.Kept.ObjectsMethods.{keeps-settled, keeps-store_element}
+use Rattle.mb_model.proofs.Kept.Defined.{keeps-prop_defined}
 use Rattle.mb_model.proofs.Kept.OperationsConversions.{keeps-to_key}
 
 -- what the parts of these rows keep (written by tools/kept.py)
-
-pub keeps-elements : (kept : Kept) (x0 : Context) (x1 : Val) (x2 : ℕ) (x3 : List ℕ) → Goes kept (elements x0 x1 x2 x3)
-keeps-elements kept c a k [] = keeps-is_value kept a
-keeps-elements kept c a k (n ∷ ns) = keeps->>= kept (eval c n) (λ v. (store_element c.side a k v) >>= (λ _.
-    elements c a (k + 1) ns)) (keeps-eval kept c n) (λ v. keeps->>= kept (store_element c.side a k v) (λ _.
-    elements c a (k + 1) ns) (keeps-store_element kept c.side a k v) (λ _. keeps-elements kept c a (k + 1) ns))
 
 pub keeps-method_function : (kept : Kept) (x0 : Context) (x1 : ℕ) (x2 : FunctionParts) (x3 : List ℕ) → Goes kept
     (method_function x0 x1 x2 x3)
@@ -42,19 +32,9 @@ keeps-keyed_function kept c n parts prefix k = keeps->>= kept (look (λ g. key_n
     n parts (prefix ++ name)) (keeps-look kept (λ g. key_name g k)) (λ name. keeps-method_function kept c n parts
     (prefix ++ name))
 
-pub keeps-define_on : (kept : Kept) (x0 : ℕ) (x1 : Val) (x2 : PropertyKey) (x3 : Desc Val) (x4 : Option Thing) →
-    Goes kept (define_on x0 x1 x2 x3 x4)
-keeps-define_on kept s o k d None = keeps-give kept Nothing
-keeps-define_on kept s o k d (Some t) = keeps-settled kept s o (ordinary_defined t k d)
-
-pub keeps-prop_defined : (kept : Kept) (x0 : ℕ) (x1 : Val) (x2 : PropertyKey) (x3 : Desc Val) → Goes kept
-    (prop_defined x0 x1 x2 x3)
-keeps-prop_defined kept s o k d = keeps->>= kept (look (λ g. thing_at g o)) (λ t. define_on s o k d t) (keeps-look
-    kept (λ g. thing_at g o)) (λ t. keeps-define_on kept s o k d t)
-
 pub keeps-prop_value : (kept : Kept) (x0 : ℕ) (x1 : Val) (x2 : PropertyKey) (x3 : Val) → Goes kept (prop_value x0
     x1 x2 x3)
-keeps-prop_value kept s o k v = keeps-prop_defined kept s o k (open_desc v)
+keeps-prop_value kept s o k v = keeps-prop_defined kept s o k (open_desc v) refl
 
 pub keeps-prop_keyed : (kept : Kept) (x0 : Context) (x1 : Val) (x2 : ℕ) (x3 : Form) (x4 : PropertyKey) → Goes kept
     (prop_keyed x0 x1 x2 x3 x4)
@@ -62,13 +42,13 @@ keeps-prop_keyed kept c o n (ValueForm name e) k = keeps->>= kept (eval c e) (λ
     (keeps-eval kept c e) (λ v. keeps-prop_value kept c.side o k v)
 keeps-prop_keyed kept c o n (MethodForm name parts) k = keeps->>= kept (keyed_function c n parts [] k) (λ f.
     prop_defined c.side o k (open_desc f)) (keeps-keyed_function kept c n parts [] k) (λ f. keeps-prop_defined kept
-    c.side o k (open_desc f))
+    c.side o k (open_desc f) refl)
 keeps-prop_keyed kept c o n (GetterForm name parts) k = keeps->>= kept (keyed_function c n parts (codes "get ") k)
     (λ f. prop_defined c.side o k (getter_desc f)) (keeps-keyed_function kept c n parts (codes "get ") k) (λ f.
-    keeps-prop_defined kept c.side o k (getter_desc f))
+    keeps-prop_defined kept c.side o k (getter_desc f) refl)
 keeps-prop_keyed kept c o n (SetterForm name parts) k = keeps->>= kept (keyed_function c n parts (codes "set ") k)
     (λ f. prop_defined c.side o k (setter_desc f)) (keeps-keyed_function kept c n parts (codes "set ") k) (λ f.
-    keeps-prop_defined kept c.side o k (setter_desc f))
+    keeps-prop_defined kept c.side o k (setter_desc f) refl)
 keeps-prop_keyed kept c o n _ k = keeps-give kept Nothing
 
 pub keeps-prop_key : (kept : Kept) (x0 : Context) (x1 : PropName) → Goes kept (prop_key x0 x1)

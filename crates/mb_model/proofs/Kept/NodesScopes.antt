@@ -7,7 +7,7 @@ use Rattle.mb_model.specs.Writing.{◌>>=◌, pay_each, look}
 use Rattle.mb_model.specs.Operations.Makings.{make_function}
 use Rattle.mb_model.specs.Nodes.Scopes.{form_at, bound_names, binding, scope, add_scope, enter_names, enter_scope, copy_of, copy_scope, resolve, find_binding, own_place, initialize, value_bound, bound_value, read_name, write_value, write_bound, write_name, code, declare_one, declare}
 use Rattle.mb_model.proofs.Kept.Words.{Kept, Goes, keeps->>=, keeps-add_scope, keeps-give, keeps-giving, keeps-look, keeps-pay_each, keeps-reference_error, keeps-type_error}
-use Rattle.mb_model.proofs.Kept.OperationsMakings.{keeps-make_function}
+use Rattle.mb_model.proofs.Kept.Made.{keeps-make_function}
 
 -- what the parts of these rows keep (written by tools/kept.py)
 

@@ -41,7 +41,7 @@ keeps-delete_done kept s b = keeps->>= kept (unless_type_error s b) (λ _. truth
 
 pub keeps-delete_at : (kept : Kept) (x0 : ℕ) (x1 : PropertyKey) (x2 : Val) → Goes kept (delete_at x0 x1 x2)
 keeps-delete_at kept s k o = keeps->>= kept (flag (perform s (Delete k) o)) (λ b. delete_done s b) (keeps-flag kept
-    (perform s (Delete k) o)) (λ b. keeps-delete_done kept s b)
+    (perform s (Delete k) o) (λ _ _. tt)) (λ b. keeps-delete_done kept s b)
 
 pub keeps-delete_reference : (kept : Kept) (x0 : Context) (x1 : Reference) → Goes kept (delete_reference x0 x1)
 keeps-delete_reference kept c (ToName x) = keeps-type_error kept c.side

@@ -2,24 +2,30 @@ use Rattle.mb_model.specs.Objects.Rules as rule
 use Rattle.std.specs.Prelude.{ℕ, List, [], ◌∷◌, Bool, true, false, ◌||◌, Option, Some, None}
 use Rattle.mb_desc.specs.declared.descriptor.Desc.{Desc}
 use Rattle.mb_desc.specs.declared.descriptor.Full.{Full}
-use Rattle.mb_world.specs.Value.{Val, Undefined, is_object, is_null, is_nullish, to_boolean}
-use Rattle.mb_world.specs.Key.{PropertyKey, Named, value_of_key}
+use Rattle.mb_world.specs.Value.{Val, Undefined, is_object, is_null, to_boolean}
+use Rattle.mb_world.specs.Key.{PropertyKey, value_of_key}
 use Rattle.mb_desc.specs.Descriptors.{Complete}
 use Rattle.mb_world.specs.Objects.{is_callable}
 use Rattle.mb_check.specs.declared.verdict.Verdict.{Verdict}
 use Rattle.mb_check.specs.declared.verdict.Verdict.TheVariants.{Pass, Broken}
+<<<<<<< HEAD
 use Rattle.mb_world.specs.EntryLine.{op_name}
 use Rattle.mb_model.specs.Trace.Ops.{op_of}
 use Rattle.mb_model.specs.Task.{Perform, Answer, Nothing, Value, Flag, Prop, Keys, Method, GetPrototypeOf, SetPrototypeOf, IsExtensible, PreventExtensions, GetOwnProperty, DefineOwnProperty, HasProperty, Get, Set, Delete, OwnPropertyKeys, Call, Construct}
 use Rattle.mb_model.specs.Writing.{◌>>=◌, give, look, answer, value, keys, perform, type_error, unless_type_error}
+=======
+use Rattle.mb_model.specs.Task.{Answer, Nothing, Value, Flag, Prop, Keys, Method, GetPrototypeOf, SetPrototypeOf, IsExtensible, PreventExtensions, GetOwnProperty, DefineOwnProperty, HasProperty, Get, Set, Delete, OwnPropertyKeys, Call, Construct}
+use Rattle.mb_model.specs.Writing.{◌>>=◌, give, look, value, keys, perform, type_error, unless_type_error}
+>>>>>>> c23e7bf (What rows keep is a relation; along every task each object evolves (mb_growth))
 use Rattle.mb_model.specs.Operations.Makings.{make_array}
 use Rattle.mb_model.specs.Operations.Calls.{get, list_of}
 use Rattle.mb_model.specs.Operations.Descriptors.{todesc, fromdesc}
-use Rattle.mb_model.specs.Objects.Proxies.{Parted, judge, read_extensible, read_own, prototype_read, prototype_extensible, prototype_said, set_prototype_read, set_prototype_extensible, set_prototype_said, extensible_read, extensible_said, prevent_read, prevent_said, absent_extensible, absent_read, absent_said, own_extensible, own_read, own_converted, own_present_said, own_said, define_extensible, define_read, define_said, has_said, get_read, get_said, set_read, set_said, delete_said, with_parted, keys_parted, keys_read, keys_extensible, as_keys, keys_listed, keys_said, construct_said, trap_value, trap_flag, trapped, call_trap, trap_callable, trap_got, proxy_method}
-use Rattle.mb_model.proofs.Kept.Words.{Kept, Goes, keeps->>=, keeps-answer, keeps-flag, keeps-give, keeps-if, keeps-keys, keeps-look, keeps-property, keeps-type_error, keeps-unless_type_error, keeps-value, keeps-yes_or_no}
-use Rattle.mb_model.proofs.Kept.OperationsCalls.{keeps-call, keeps-get, keeps-list_of}
-use Rattle.mb_model.proofs.Kept.OperationsDescriptors.{keeps-fromdesc, keeps-todesc}
+use Rattle.mb_model.specs.Objects.Proxies.{Parted, judge, read_extensible, read_own, prototype_read, prototype_extensible, prototype_said, set_prototype_read, set_prototype_extensible, set_prototype_said, extensible_read, extensible_said, prevent_read, prevent_said, absent_extensible, absent_read, absent_said, own_extensible, own_read, own_converted, own_present_said, own_said, define_extensible, define_read, define_said, has_said, get_read, get_said, set_read, set_said, delete_said, with_parted, keys_parted, keys_read, keys_extensible, as_keys, keys_listed, keys_said, construct_said, trap_value, trap_flag, trapped, call_trap, trap_callable}
+use Rattle.mb_model.proofs.Kept.Words.{Kept, Goes, keeps->>=, keeps-flag, keeps-give, keeps-if, keeps-keys, keeps-look, keeps-property, keeps-type_error, keeps-unless_type_error, keeps-value, keeps-yes_or_no}
+use Rattle.mb_model.proofs.Kept.Made.{keeps-fromdesc}
+use Rattle.mb_model.proofs.Kept.OperationsCalls.{keeps-call, keeps-list_of}
 use Rattle.mb_model.proofs.Kept.OperationsMakings.{keeps-make_array}
+use Rattle.mb_model.proofs.Kept.Descriptors.{keeps-todesc}
 
 -- what the parts of these rows keep (written by tools/kept.py)
 
@@ -28,10 +34,10 @@ keeps-judge kept p Pass a = keeps-give kept a
 keeps-judge kept p (Broken n) a = keeps-type_error kept p
 
 pub keeps-read_extensible : (kept : Kept) (x0 : ℕ) (x1 : Val) → Goes kept (read_extensible x0 x1)
-keeps-read_extensible kept p t = keeps-flag kept (perform p IsExtensible t)
+keeps-read_extensible kept p t = keeps-flag kept (perform p IsExtensible t) (λ _ _. tt)
 
 pub keeps-read_own : (kept : Kept) (x0 : ℕ) (x1 : Val) (x2 : PropertyKey) → Goes kept (read_own x0 x1 x2)
-keeps-read_own kept p t k = keeps-property kept (perform p (GetOwnProperty k) t)
+keeps-read_own kept p t k = keeps-property kept (perform p (GetOwnProperty k) t) (λ _ _. tt)
 
 pub keeps-prototype_read : (kept : Kept) (x0 : ℕ) (x1 : Val) (x2 : Val) → Goes kept (prototype_read x0 x1 x2)
 keeps-prototype_read kept p said real = keeps-judge kept p (rule.get_prototype said (Some real)) (Value said)
@@ -40,8 +46,8 @@ pub keeps-prototype_extensible : (kept : Kept) (x0 : ℕ) (x1 : Val) (x2 : Val) 
     (prototype_extensible x0 x1 x2 x3)
 keeps-prototype_extensible kept p t said true = keeps-judge kept p (rule.get_prototype said None) (Value said)
 keeps-prototype_extensible kept p t said false = keeps->>= kept (value (perform p GetPrototypeOf t)) (λ real.
-    prototype_read p said real) (keeps-value kept (perform p GetPrototypeOf t)) (λ real. keeps-prototype_read kept
-    p said real)
+    prototype_read p said real) (keeps-value kept (perform p GetPrototypeOf t) (λ _ _. tt)) (λ real.
+    keeps-prototype_read kept p said real)
 
 pub keeps-prototype_said : (kept : Kept) (x0 : ℕ) (x1 : Val) (x2 : Val) → Goes kept (prototype_said x0 x1 x2)
 keeps-prototype_said kept p t said = keeps->>= kept (unless_type_error p (is_object said || is_null said)) (λ _.
@@ -57,7 +63,7 @@ pub keeps-set_prototype_extensible : (kept : Kept) (x0 : ℕ) (x1 : Val) (x2 : V
     (set_prototype_extensible x0 x1 x2 x3)
 keeps-set_prototype_extensible kept p t given true = keeps-judge kept p (rule.set_prototype given None) (Flag true)
 keeps-set_prototype_extensible kept p t given false = keeps->>= kept (value (perform p GetPrototypeOf t)) (λ real.
-    set_prototype_read p given real) (keeps-value kept (perform p GetPrototypeOf t)) (λ real.
+    set_prototype_read p given real) (keeps-value kept (perform p GetPrototypeOf t) (λ _ _. tt)) (λ real.
     keeps-set_prototype_read kept p given real)
 
 pub keeps-set_prototype_said : (kept : Kept) (x0 : ℕ) (x1 : Val) (x2 : Val) (x3 : Bool) → Goes kept
@@ -178,16 +184,14 @@ keeps-keys_parted kept p t said extensible (k ∷ ks) x = keeps->>= kept (read_o
 
 pub keeps-keys_read : (kept : Kept) (x0 : ℕ) (x1 : Val) (x2 : List PropertyKey) (x3 : Bool) (x4 : List PropertyKey)
     → Goes kept (keys_read x0 x1 x2 x3 x4)
-keeps-keys_read kept p t said extensible ks = keeps-keys_parted kept p t said extensible ks (record {
-  fixed = [];
-  loose = [];
-})
+keeps-keys_read kept p t said extensible ks = keeps-keys_parted kept p t said extensible ks (record { fixed = [];
+    loose = [] })
 
 pub keeps-keys_extensible : (kept : Kept) (x0 : ℕ) (x1 : Val) (x2 : List PropertyKey) (x3 : Bool) → Goes kept
     (keys_extensible x0 x1 x2 x3)
 keeps-keys_extensible kept p t said extensible = keeps->>= kept (keys (perform p OwnPropertyKeys t)) (λ ks.
-    keys_read p t said extensible ks) (keeps-keys kept (perform p OwnPropertyKeys t)) (λ ks. keeps-keys_read kept p
-    t said extensible ks)
+    keys_read p t said extensible ks) (keeps-keys kept (perform p OwnPropertyKeys t) (λ _ _. tt)) (λ ks.
+    keeps-keys_read kept p t said extensible ks)
 
 pub keeps-keys_listed : (kept : Kept) (x0 : ℕ) (x1 : Val) (x2 : List PropertyKey) → Goes kept (keys_listed x0 x1 x2)
 keeps-keys_listed kept p t said = keeps->>= kept (judge p (rule.own_keys said [] [] true) Nothing) (λ _.
@@ -262,13 +266,3 @@ pub keeps-trap_callable : (kept : Kept) (x0 : ℕ) (x1 : Val) (x2 : Val) (x3 : V
     (trap_callable x0 x1 x2 x3 x4)
 keeps-trap_callable kept p t h trap m = keeps->>= kept (look (λ g. is_callable g trap)) (λ c. call_trap p t h trap
     m c) (keeps-look kept (λ g. is_callable g trap)) (λ c. keeps-call_trap kept p t h trap m c)
-
-pub keeps-trap_got : (kept : Kept) (x0 : ℕ) (x1 : ℕ) (x2 : Val) (x3 : Val) (x4 : Method) (x5 : Val) → Goes kept
-    (trap_got x0 x1 x2 x3 x4 x5)
-keeps-trap_got kept s p t h m trap = keeps-if kept (is_nullish trap) (answer (Perform s m t p false))
-    (trap_callable p t h trap m) (keeps-answer kept (Perform s m t p false)) (keeps-trap_callable kept p t h trap m)
-
-pub keeps-proxy_method : (kept : Kept) (x0 : ℕ) (x1 : ℕ) (x2 : Val) (x3 : Val) (x4 : Method) → Goes kept
-    (proxy_method x0 x1 x2 x3 x4)
-keeps-proxy_method kept s p t h m = keeps->>= kept (get p h (Named (op_name (op_of m)))) (λ trap. trap_got s p t h
-    m trap) (keeps-get kept p h (Named (op_name (op_of m)))) (λ trap. keeps-trap_got kept s p t h m trap)

@@ -13,10 +13,10 @@ use Rattle.mb_model.proofs.Kept.Words.{Kept, Goes, keeps->>=, keeps-flag, keeps-
 -- what the parts of these rows keep (written by tools/kept.py)
 
 pub keeps-get : (kept : Kept) (x0 : ℕ) (x1 : Val) (x2 : PropertyKey) → Goes kept (get x0 x1 x2)
-keeps-get kept s o k = keeps-value kept (perform s (Get k o) o)
+keeps-get kept s o k = keeps-value kept (perform s (Get k o) o) (λ _ _. tt)
 
 pub keeps-call : (kept : Kept) (x0 : ℕ) (x1 : Val) (x2 : Val) (x3 : List Val) → Goes kept (call x0 x1 x2 x3)
-keeps-call kept s f this vs = keeps-value kept (perform s (Call this vs) f)
+keeps-call kept s f this vs = keeps-value kept (perform s (Call this vs) f) (λ _ _. tt)
 
 pub keeps-getv : (kept : Kept) (x0 : ℕ) (x1 : Val) (x2 : PropertyKey) → Goes kept (getv x0 x1 x2)
 keeps-getv kept s (Text t) k = keeps-give kept (text_property t k)
@@ -26,7 +26,7 @@ keeps-getv kept s v k = keeps-if kept (is_object v) (get s v k) (if is_nullish v
 
 pub keeps-set_in : (kept : Kept) (x0 : ℕ) (x1 : Val) (x2 : PropertyKey) (x3 : Val) → Goes kept (set_in x0 x1 x2 x3)
 keeps-set_in kept s o k v = keeps->>= kept (flag (perform s (Set k v o) o)) (λ done. unless_type_error s done)
-    (keeps-flag kept (perform s (Set k v o) o)) (λ done. keeps-unless_type_error kept s done)
+    (keeps-flag kept (perform s (Set k v o) o) (λ _ _. tt)) (λ done. keeps-unless_type_error kept s done)
 
 pub keeps-putv : (kept : Kept) (x0 : ℕ) (x1 : Val) (x2 : PropertyKey) (x3 : Val) → Goes kept (putv x0 x1 x2 x3)
 keeps-putv kept s v k x = keeps-if kept (is_object v) (set_in s v k x) (type_error s) (keeps-set_in kept s v k x)

@@ -1,9 +1,9 @@
 use Rattle.std.proofs.Common.{◌≡◌, ℕ, zero, suc, ◌+◌, ◌≤◌, List, [], ◌∷◌, ◌++◌, length, slice_get, slice_set, refl, ◌∙◌, ap, arith}
 use Rattle.std.proofs.lemmas.List.{length-set}
 use Rattle.mb_world.specs.Value.{Val}
-use Rattle.mb_world.specs.Graph.{Job, Script, Call as CallJob}
+use Rattle.mb_world.specs.Graph.{Graph, Job, Script, Call as CallJob}
 use Rattle.mb_model.specs.BuiltIns.Basics.{queue_or_empty, with_job}
-use Rattle.mb_model.proofs.Kept.Words.{Kept}
+use Rattle.mb_model.proofs.Kept.Words.{Kept, beside-objects}
 
 -- along rows no script begins to wait, and the number of queues stays
 
@@ -32,14 +32,21 @@ scripts-added (q ∷ qs) zero v = ap (λ x. x + scripts qs) (call-added q v)
 scripts-added (q ∷ qs) (suc s) v = ap (λ x. scripts_of q + x) (scripts-added qs s v)
 
 -- there are k queues, and at most n scripts wait
+abbrev pub Waiting : (k n : ℕ) → Graph → Type 0
+Waiting k n g = (length g.queues ≡ k) × (scripts g.queues ≤ n)
+
 abbrev pub queued : (k n : ℕ) → Kept
 queued k n = record {
-  holds = λ g. (length g.queues ≡ k) × (scripts g.queues ≤ n);
-  objects = λ g ts h. h;
-  symbols = λ g ds h. h;
-  scopes = λ g ss h. h;
-  log = λ g is h. h;
-  job = λ g s v h.
+  cares = ⊥;
+  to = λ f g. Waiting k n g;
+  stays = λ f g h. h;
+  goes_on = λ f g h a b. b;
+  made = λ f g t new h. h;
+  moved = λ f g o t u at by h. beside-objects (Waiting k n) g o u (λ ts. h) h;
+  symbols = λ f g ds h. h;
+  scopes = λ f g ss h. h;
+  log = λ f g is h. h;
+  job = λ f g s v h.
       let same : length (with_job s (CallJob v) g).queues ≡ length g.queues = length-set g.queues s _ in
       let few : scripts (with_job s (CallJob v) g).queues ≡ scripts g.queues = scripts-added g.queues s v in
       (same ∙ h.0, omega (arith, few, h));

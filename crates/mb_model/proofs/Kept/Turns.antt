@@ -32,9 +32,9 @@ job-below s (CallJob v) g (suc f) =
     let h : left_of (job_ends s (CallJob v) g (suc f)) ≤ f = given-falls row _ g f in
     below-by (suc f + 0) (job_ends s (CallJob v) g (suc f)) (omega (arith, h))
 
-job-holds : (kept : Kept) (s : ℕ) (j : Job) (g : Graph) (f : ℕ) → kept.holds g → EndHolds kept (job_ends s j g f)
-job-holds kept s Script g f h = given-holds kept _ g f h
-job-holds kept s (CallJob v) g f h = means-holds kept _ g f h
+job-holds : (kept : Kept) (s : ℕ) (j : Job) (g : Graph) (f : ℕ) → kept.to g g → EndHolds kept g (job_ends s j g f)
+job-holds kept s Script g f h = given-holds kept _ g f (λ _. tt) h
+job-holds kept s (CallJob v) g f h = means-holds kept _ g f (λ _. tt) h
 
 -- the units that are left, and the scripts that wait
 abbrev pub to_come : Stage → ℕ
@@ -45,14 +45,14 @@ abbrev pub Less : ℕ → ℕ → ℕ → Stage → Type 0
 Less k n m t =
     ((length (t.graph.queues) ≡ k) × (scripts (t.graph.queues) ≤ n)) × ((is_spent t.ending ≡ true) ⊎ (to_come t < m))
 
-ran-less : (k n m : ℕ) (t : Stage) (s : ℕ) (r : Ends) (b : ℕ) → EndHolds (queued k n) r → Below b r → b + n ≤ m →
+ran-less : (k n m : ℕ) (t : Stage) (s : ℕ) (g : Graph) (r : Ends) (b : ℕ) → EndHolds (queued k n) g r → Below b r → b + n ≤ m →
     Less k n m (after t s (turn_ended s r))
-ran-less k n m t s (Gives (Normal a) g f) b h l e = (h, inr (omega (arith, h, l, e)))
-ran-less k n m t s (Gives (Throw v) g f) b h l e = (h, inr (omega (arith, h, l, e)))
-ran-less k n m t s (Gives (Return v) g f) b h l e = (h, inr (omega (arith, h, l, e)))
-ran-less k n m t s (Gives Break g f) b h l e = (h, inr (omega (arith, h, l, e)))
-ran-less k n m t s (Gives Continue g f) b h l e = (h, inr (omega (arith, h, l, e)))
-ran-less k n m t s (Spent g f) b h l e = (h, inl refl)
+ran-less k n m t s g0 (Gives (Normal a) g f) b h l e = (h, inr (omega (arith, h, l, e)))
+ran-less k n m t s g0 (Gives (Throw v) g f) b h l e = (h, inr (omega (arith, h, l, e)))
+ran-less k n m t s g0 (Gives (Return v) g f) b h l e = (h, inr (omega (arith, h, l, e)))
+ran-less k n m t s g0 (Gives Break g f) b h l e = (h, inr (omega (arith, h, l, e)))
+ran-less k n m t s g0 (Gives Continue g f) b h l e = (h, inr (omega (arith, h, l, e)))
+ran-less k n m t s g0 (Spent g f) b h l e = (h, inl refl)
 
 -- the first job was taken
 scripts-taken : (qs : List (List Job)) (s : ℕ) (j : Job) (js : List Job) → slice_get qs s ≡ Some (j ∷ js) →
@@ -86,10 +86,10 @@ busy t s (Some (j ∷ js)) e f =
     let n = scripts (t.graph.queues) in
     let fewer : scripts g.queues + script_of j ≡ n = scripts-taken (t.graph.queues) s j js e in
     let same : length g.queues ≡ k = length-set (t.graph.queues) s js in
-    let kept : EndHolds (queued k (scripts g.queues)) (job_ends s j g t.left) =
+    let kept : EndHolds (queued k (scripts g.queues)) g (job_ends s j g t.left) =
     job-holds (queued k (scripts g.queues)) s j g t.left (same, omega arith) in
     let ran : Less k (scripts g.queues) (to_come t) (after t s (turn_ended s (job_ends s j g t.left))) =
-    ran-less k (scripts g.queues) (to_come t) t s (job_ends s j g t.left) (t.left + script_of j) kept
+    ran-less k (scripts g.queues) (to_come t) t s g (job_ends s j g t.left) (t.left + script_of j) kept
     (job-below s j g t.left) (omega (arith, fewer)) in
     let turn : one_turn t s ≡ after t s (turn_ended s (job_ends s j g t.left)) =
     ap (λ q. after t s (take_turn t.graph s t.left q)) e in

@@ -1,4 +1,5 @@
-use Rattle.std.specs.Prelude.{ℕ, List, [], ◌∷◌, ◌++◌, length, Bool, true, false, Option, Some, None, if◌then◌else◌}
+use Rattle.std.specs.Prelude.{◌≡◌, ℕ, List, [], ◌∷◌, ◌++◌, length, Bool, true, false, Option, Some, None, slice_set, if◌then◌else◌}
+use Rattle.std.proofs.Common.{refl}
 use Rattle.mb_world.specs.declared.cell.ErrorKind.{ErrorKind}
 use Rattle.mb_world.specs.declared.cell.ErrorKind.TheVariants.{TypeError, RangeError, ReferenceError}
 use Rattle.mb_world.specs.Value.{Val, Undefined, Null, Truth, Whole, Text, Symbol, Object, BuiltIn}
@@ -7,41 +8,106 @@ use Rattle.mb_world.specs.Objects.{thing_at, with_thing, new_thing}
 use Rattle.mb_world.specs.Standard.{error_prototype}
 use Rattle.mb_model.specs.Engine.{Ret, Pay, Turn, Do, Again}
 use Rattle.mb_model.specs.Task.{Task, Answer, Nothing, Value, Outcome, Normal, Throw, Return, Break, Continue}
+use Rattle.mb_model.specs.Fitting.{Fits}
 use Rattle.mb_model.specs.Writing.{Row, Does, ◌>>=◌, give, is_value, truth, yes_or_no, ends, throw, pass, outcome, answer, again, pay, turn, pay_each, look, change, value_in, flag_in, property_in, keys_in, value, flag, property, keys, with_object, make, with_symbol, make_symbol, fail, type_error, range_error, reference_error, or_type_error, unless_type_error, log}
 use Rattle.mb_model.specs.Operations.Makings.{altered, alter}
 use Rattle.mb_model.specs.Nodes.Scopes.{add_scope, giving}
 use Rattle.mb_model.specs.BuiltIns.Basics.{with_job}
+use Rattle.mb_model.proofs.Kept.Changes.{IsNew, NewOther, Change, Lasts, moved-lasts, made-lasts}
 
--- a property of graphs that each change keeps which a row can make: of objects, symbols, scopes and the log, and one
--- more call in a queue
+-- a relation between an earlier graph and a later one that goes on along each change which a row can make: an object is
+-- made or changes, symbols, scopes and the log change, and a queue gets one more call. It may care that tasks fit
 pub record Kept : Type 1 where
-  pub holds : Graph → Type 0
-  pub objects : (g : Graph) (ts : List Thing) → holds g → holds (record g { objects = ts })
-  pub symbols : (g : Graph) (ds : List (Option (List ℕ))) → holds g → holds (record g { symbols = ds })
-  pub scopes : (g : Graph) (ss : List Scope) → holds g → holds (record g { scopes = ss })
-  pub log : (g : Graph) (is : List Item) → holds g → holds (record g { log = is })
-  pub job : (g : Graph) (s : ℕ) (v : Val) → holds g → holds (with_job s (CallJob v) g)
+  pub cares : Type 0
+  pub to : Graph → Graph → Type 0
+  pub stays : (f g : Graph) → to f g → to g g
+  pub goes_on : (f g h : Graph) → to f g → to g h → to f h
+  pub made : (f g : Graph) (t : Thing) → IsNew t → to f g → to f (with_object t g)
+  pub moved : (f g : Graph) (o : Val) (t u : Thing) → thing_at g o ≡ Some t → Change cares g t u → to f g
+      → to f (with_thing o u g)
+  pub symbols : (f g : Graph) (ds : List (Option (List ℕ))) → to f g → to f (record g { symbols = ds })
+  pub scopes : (f g : Graph) (ss : List Scope) → to f g → to f (record g { scopes = ss })
+  pub log : (f g : Graph) (is : List Item) → to f g → to f (record g { log = is })
+  pub job : (f g : Graph) (s : ℕ) (v : Val) → to f g → to f (with_job s (CallJob v) g)
 
--- it holds in each state of a row, if it holds wherever a task hands on
-abbrev pub Holds : Kept → Row → Type 0
-Holds kept (Ret o s) = kept.holds s
-Holds kept (Pay n s p) = kept.holds s × Holds kept p
-Holds kept (Turn s p) = kept.holds s × Holds kept p
-Holds kept (Do t s k) = kept.holds s × ((o : Outcome) (s' : Graph) → kept.holds s' → Holds kept (k o s'))
-Holds kept (Again t s k) = kept.holds s × ((o : Outcome) (s' : Graph) → kept.holds s' → Holds kept (k o s'))
+-- and each array stays one
+abbrev pub Along : Kept → Graph → Graph → Type 0
+Along kept f g = Lasts f g × kept.to f g
 
--- a part of a row keeps it
+pub along-stays : (kept : Kept) (f g : Graph) → Along kept f g → Along kept g g
+along-stays kept f g p = (λ a h. h, kept.stays f g p.1)
+
+pub along-on : (kept : Kept) (f g h : Graph) → Along kept f g → Along kept g h → Along kept f h
+along-on kept f g h p q = (λ a x. q.0 a (p.0 a x), kept.goes_on f g h p.1 q.1)
+
+pub along-made : (kept : Kept) (f g : Graph) (t : Thing) → IsNew t → Along kept f g → Along kept f (with_object t g)
+along-made kept f g t new p = (λ a x. made-lasts g t a (p.0 a x), kept.made f g t new p.1)
+
+pub along-moved : (kept : Kept) (f g : Graph) (o : Val) (t u : Thing) → thing_at g o ≡ Some t → Change kept.cares g t u →
+    Along kept f g → Along kept f (with_thing o u g)
+along-moved kept f g o t u at by p = (λ a x. moved-lasts kept.cares g o t u at by a (p.0 a x), kept.moved f g o t u at by p.1)
+
+pub along-log : (kept : Kept) (f g : Graph) (is : List Item) → Along kept f g → Along kept f (record g { log = is })
+along-log kept f g is p = (λ a x. p.0 a x, kept.log f g is p.1)
+
+along-symbols : (kept : Kept) (f g : Graph) (ds : List (Option (List ℕ))) → Along kept f g →
+    Along kept f (record g { symbols = ds })
+along-symbols kept f g ds p = (λ a x. p.0 a x, kept.symbols f g ds p.1)
+
+along-scopes : (kept : Kept) (f g : Graph) (ss : List Scope) → Along kept f g → Along kept f (record g { scopes = ss })
+along-scopes kept f g ss p = (λ a x. p.0 a x, kept.scopes f g ss p.1)
+
+along-job : (kept : Kept) (f g : Graph) (s : ℕ) (v : Val) → Along kept f g → Along kept f (with_job s (CallJob v) g)
+along-job kept f g s v p = (λ a x. p.0 a x, kept.job f g s v p.1)
+
+-- the states of a row go on from the graph where it began, and its tasks fit, if they go on wherever a task hands on
+abbrev pub Holds : Kept → Graph → Row → Type 0
+Holds kept b (Ret o s) = Along kept b s
+Holds kept b (Pay n s p) = Along kept b s × Holds kept b p
+Holds kept b (Turn s p) = Along kept b s × Holds kept b p
+Holds kept b (Do t s k) =
+    Along kept b s × (kept.cares → Fits t s) × ((o : Outcome) (s' : Graph) → Along kept s s' → Holds kept b (k o s'))
+Holds kept b (Again t s k) =
+    Along kept b s × (kept.cares → Fits t s) × ((o : Outcome) (s' : Graph) → Along kept s s' → Holds kept b (k o s'))
+
+-- a part of a row does so from one graph; of what it gives, and of the graph then, more may be known
+abbrev pub Gets : {A : Type 0} → Kept → (A → Graph → Type 0) → Graph → Does A → Type 0
+Gets {A} kept known g m = (k : A → Graph → Row) (b : Graph) → Along kept b g →
+    ((a : A) (g' : Graph) → Along kept g g' → known a g' → Holds kept b (k a g')) → Holds kept b (m k g)
+
+abbrev pub At : {A : Type 0} → Kept → Graph → Does A → Type 0
+At {A} kept g m = (k : A → Graph → Row) (b : Graph) → Along kept b g →
+    ((a : A) (g' : Graph) → Along kept g g' → Holds kept b (k a g')) → Holds kept b (m k g)
+
+-- and from every graph
 pub record Goes {A : Type 0} (kept : Kept) (m : Does A) : Type 0 where
-  pub goes : (k : A → Graph → Row) (g : Graph) → kept.holds g →
-      ((a : A) (g' : Graph) → kept.holds g' → Holds kept (k a g')) → Holds kept (m k g)
+  pub goes : (g : Graph) → At kept g m
+
+pub at-then : {A B : Type 0} (kept : Kept) (g : Graph) (m : Does A) (f : A → Does B) → At kept g m →
+    ((a : A) (g' : Graph) → Along kept g g' → At kept g' (f a)) → At kept g (m >>= f)
+at-then kept g m f pm pf k b p h =
+    pm (λ a. f a k) b p
+    (λ a g' q. pf a g' q k b (along-on kept b g g' p q) (λ c g'' q'. h c g'' (along-on kept g g' g'' q q')))
+
+pub gets-then : {A B : Type 0} (kept : Kept) (known : A → Graph → Type 0) (g : Graph) (m : Does A) (f : A → Does B) →
+    Gets kept known g m → ((a : A) (g' : Graph) → Along kept g g' → known a g' → At kept g' (f a)) → At kept g (m >>= f)
+gets-then kept known g m f pm pf k b p h =
+    pm (λ a. f a k) b p
+    (λ a g' q x. pf a g' q x k b (along-on kept b g g' p q) (λ c g'' q'. h c g'' (along-on kept g g' g'' q q')))
+
+-- what follows learns nothing of what a first part gave
+pub gets-after : {A B : Type 0} (kept : Kept) (known : B → Graph → Type 0) (g : Graph) (m : Does A) (f : A → Does B) →
+    At kept g m → ((a : A) (g' : Graph) → Along kept g g' → Gets kept known g' (f a)) → Gets kept known g (m >>= f)
+gets-after kept known g m f pm pf k b p h =
+    pm (λ a. f a k) b p
+    (λ a g' q. pf a g' q k b (along-on kept b g g' p q) (λ c g'' q' x. h c g'' (along-on kept g g' g'' q q') x))
 
 pub keeps-give : {A : Type 0} (kept : Kept) (a : A) → Goes kept (give a)
-keeps-give kept a = record { goes = λ k g p h. h a g p }
+keeps-give kept a = record { goes = λ g k b p h. h a g (along-stays kept b g p) }
 
 pub keeps->>= : {A B : Type 0} (kept : Kept) (m : Does A) (f : A → Does B) → Goes kept m → ((a : A) → Goes kept (f a)) →
     Goes kept (m >>= f)
-keeps->>= kept m f pm pf =
-    record { goes = λ k g p h. pm.goes (λ a. f a k) g p (λ a g' p'. (pf a).goes k g' p' h) }
+keeps->>= kept m f pm pf = record { goes = λ g. at-then kept g m f (pm.goes g) (λ a g' q. (pf a).goes g') }
 
 pub keeps-if : {A : Type 0} (kept : Kept) (b : Bool) (m m' : Does A) → Goes kept m → Goes kept m' →
     Goes kept (if b then m else m')
@@ -49,19 +115,19 @@ keeps-if kept true m m' p p' = p
 keeps-if kept false m m' p p' = p'
 
 pub keeps-is_value : (kept : Kept) (v : Val) → Goes kept (is_value v)
-keeps-is_value kept v = record { goes = λ k g p h. h (Value v) g p }
+keeps-is_value kept v = keeps-give kept (Value v)
 
 pub keeps-truth : (kept : Kept) (b : Bool) → Goes kept (truth b)
 keeps-truth kept b = keeps-is_value kept (Truth b)
 
 pub keeps-yes_or_no : (kept : Kept) (b : Bool) → Goes kept (yes_or_no b)
-keeps-yes_or_no kept b = record { goes = λ k g p h. h (Answer.Flag b) g p }
+keeps-yes_or_no kept b = keeps-give kept (Answer.Flag b)
 
 pub keeps-ends : {A : Type 0} (kept : Kept) (o : Outcome) → Goes {A = A} kept (ends o)
-keeps-ends kept o = record { goes = λ k g p h. p }
+keeps-ends kept o = record { goes = λ g k b p h. p }
 
 pub keeps-throw : {A : Type 0} (kept : Kept) (v : Val) → Goes {A = A} kept (throw v)
-keeps-throw kept v = record { goes = λ k g p h. p }
+keeps-throw kept v = record { goes = λ g k b p h. p }
 
 pub keeps-pass : (kept : Kept) (o : Outcome) → Goes kept (pass o)
 keeps-pass kept (Normal a) = keeps-give kept a
@@ -70,20 +136,31 @@ keeps-pass kept (Return v) = keeps-ends kept (Return v)
 keeps-pass kept Break = keeps-ends kept Break
 keeps-pass kept Continue = keeps-ends kept Continue
 
-pub keeps-outcome : (kept : Kept) (t : Task) → Goes kept (outcome t)
-keeps-outcome kept t = record { goes = λ k g p h. (p, λ o s' p'. h o s' p') }
+pub at-outcome : (kept : Kept) (g : Graph) (t : Task) → (kept.cares → Fits t g) → At kept g (outcome t)
+at-outcome kept g t fit k b p h = (p, fit, h)
 
-pub keeps-answer : (kept : Kept) (t : Task) → Goes kept (answer t)
-keeps-answer kept t = record { goes = λ k g p h. (p, λ o s' p'. (keeps-pass kept o).goes k s' p' h) }
+pub at-answer : (kept : Kept) (g : Graph) (t : Task) → (kept.cares → Fits t g) → At kept g (answer t)
+at-answer kept g t fit k b p h =
+    (p, fit, λ o s q. (keeps-pass kept o).goes s k b (along-on kept b g s p q) (λ a s' q'. h a s' (along-on kept g s s' q q')))
 
-pub keeps-again : (kept : Kept) (t : Task) → Goes kept (again t)
-keeps-again kept t = record { goes = λ k g p h. (p, λ o s' p'. (keeps-pass kept o).goes k s' p' h) }
+pub at-again : (kept : Kept) (g : Graph) (t : Task) → (kept.cares → Fits t g) → At kept g (again t)
+at-again kept g t fit k b p h =
+    (p, fit, λ o s q. (keeps-pass kept o).goes s k b (along-on kept b g s p q) (λ a s' q'. h a s' (along-on kept g s s' q q')))
+
+pub keeps-outcome : (kept : Kept) (t : Task) → ((g : Graph) → kept.cares → Fits t g) → Goes kept (outcome t)
+keeps-outcome kept t fit = record { goes = λ g. at-outcome kept g t (fit g) }
+
+pub keeps-answer : (kept : Kept) (t : Task) → ((g : Graph) → kept.cares → Fits t g) → Goes kept (answer t)
+keeps-answer kept t fit = record { goes = λ g. at-answer kept g t (fit g) }
+
+pub keeps-again : (kept : Kept) (t : Task) → ((g : Graph) → kept.cares → Fits t g) → Goes kept (again t)
+keeps-again kept t fit = record { goes = λ g. at-again kept g t (fit g) }
 
 pub keeps-pay : (kept : Kept) (n : ℕ) → Goes kept (pay n)
-keeps-pay kept n = record { goes = λ k g p h. (p, h Nothing g p) }
+keeps-pay kept n = record { goes = λ g k b p h. (p, h Nothing g (along-stays kept b g p)) }
 
 pub keeps-turn : (kept : Kept) → Goes kept turn
-keeps-turn kept = record { goes = λ k g p h. (p, h Nothing g p) }
+keeps-turn kept = record { goes = λ g k b p h. (p, h Nothing g (along-stays kept b g p)) }
 
 pub keeps-pay_each : {X : Type 0} (kept : Kept) (xs : List X) → Goes kept (pay_each xs)
 keeps-pay_each kept [] = keeps-give kept Nothing
@@ -91,35 +168,51 @@ keeps-pay_each kept (x ∷ xs) =
     keeps->>= kept (pay 1) (λ _. pay_each xs) (keeps-pay kept 1) (λ _. keeps-pay_each kept xs)
 
 pub keeps-look : {A : Type 0} (kept : Kept) (f : Graph → A) → Goes kept (look f)
-keeps-look kept f = record { goes = λ k g p h. h (f g) g p }
+keeps-look kept f = record { goes = λ g k b p h. h (f g) g (along-stays kept b g p) }
 
-pub keeps-value : (kept : Kept) (t : Task) → Goes kept (value t)
-keeps-value kept t =
-    keeps->>= kept (answer t) (λ a. give (value_in a)) (keeps-answer kept t) (λ a. keeps-give kept (value_in a))
+pub keeps-value : (kept : Kept) (t : Task) → ((g : Graph) → kept.cares → Fits t g) → Goes kept (value t)
+keeps-value kept t fit =
+    keeps->>= kept (answer t) (λ a. give (value_in a)) (keeps-answer kept t fit) (λ a. keeps-give kept (value_in a))
 
-pub keeps-flag : (kept : Kept) (t : Task) → Goes kept (flag t)
-keeps-flag kept t =
-    keeps->>= kept (answer t) (λ a. give (flag_in a)) (keeps-answer kept t) (λ a. keeps-give kept (flag_in a))
+pub keeps-flag : (kept : Kept) (t : Task) → ((g : Graph) → kept.cares → Fits t g) → Goes kept (flag t)
+keeps-flag kept t fit =
+    keeps->>= kept (answer t) (λ a. give (flag_in a)) (keeps-answer kept t fit) (λ a. keeps-give kept (flag_in a))
 
-pub keeps-property : (kept : Kept) (t : Task) → Goes kept (property t)
-keeps-property kept t =
-    keeps->>= kept (answer t) (λ a. give (property_in a)) (keeps-answer kept t) (λ a. keeps-give kept (property_in a))
+pub keeps-property : (kept : Kept) (t : Task) → ((g : Graph) → kept.cares → Fits t g) → Goes kept (property t)
+keeps-property kept t fit =
+    keeps->>= kept (answer t) (λ a. give (property_in a)) (keeps-answer kept t fit) (λ a. keeps-give kept (property_in a))
 
-pub keeps-keys : (kept : Kept) (t : Task) → Goes kept (keys t)
-keeps-keys kept t =
-    keeps->>= kept (answer t) (λ a. give (keys_in a)) (keeps-answer kept t) (λ a. keeps-give kept (keys_in a))
+pub keeps-keys : (kept : Kept) (t : Task) → ((g : Graph) → kept.cares → Fits t g) → Goes kept (keys t)
+keeps-keys kept t fit =
+    keeps->>= kept (answer t) (λ a. give (keys_in a)) (keeps-answer kept t fit) (λ a. keeps-give kept (keys_in a))
 
-pub keeps-make : (kept : Kept) (t : Thing) → Goes kept (make t)
-keeps-make kept t =
-    record { goes = λ k g p h. h (Object (length g.objects)) (with_object t g) (kept.objects g (g.objects ++ (t ∷ [])) p) }
+pub keeps-make : (kept : Kept) (t : Thing) → IsNew t → Goes kept (make t)
+keeps-make kept t new =
+    record {
+      goes = λ g k b p h.
+          h (Object (length g.objects)) (with_object t g) (along-made kept g g t new (along-stays kept b g p));
+    }
 
 pub keeps-make_symbol : (kept : Kept) (d : Option (List ℕ)) → Goes kept (make_symbol d)
 keeps-make_symbol kept d =
-    record { goes = λ k g p h. h (Symbol (length g.symbols)) (with_symbol d g) (kept.symbols g (g.symbols ++ (d ∷ [])) p) }
+    record {
+      goes = λ g k b p h.
+          h (Symbol (length g.symbols)) (with_symbol d g)
+          (along-symbols kept g g (g.symbols ++ (d ∷ [])) (along-stays kept b g p));
+    }
+
+-- a row that fails ends there
+pub gets-fail : {A : Type 0} (kept : Kept) (known : A → Graph → Type 0) (g : Graph) (s : ℕ) (kind : ErrorKind) →
+    Gets {A = A} kept known g (fail s kind)
+gets-fail kept known g s kind k b p h =
+    along-made kept b g (new_thing s None (Fault kind) (error_prototype kind)) (NewOther refl ([], refl)) p
 
 pub keeps-fail : {A : Type 0} (kept : Kept) (s : ℕ) (kind : ErrorKind) → Goes {A = A} kept (fail s kind)
 keeps-fail kept s kind =
-    record { goes = λ k g p h. kept.objects g (g.objects ++ (new_thing s None (Fault kind) (error_prototype kind) ∷ [])) p }
+    record {
+      goes = λ g k b p h.
+          along-made kept b g (new_thing s None (Fault kind) (error_prototype kind)) (NewOther refl ([], refl)) p;
+    }
 
 pub keeps-type_error : {A : Type 0} (kept : Kept) (s : ℕ) → Goes {A = A} kept (type_error s)
 keeps-type_error kept s = keeps-fail kept s TypeError
@@ -138,43 +231,65 @@ pub keeps-unless_type_error : (kept : Kept) (s : ℕ) (b : Bool) → Goes kept (
 keeps-unless_type_error kept s true = keeps-give kept Nothing
 keeps-unless_type_error kept s false = keeps-type_error kept s
 
+-- what goes on after a test goes on from the same graph
+pub at-unless : {A : Type 0} (kept : Kept) (g : Graph) (s : ℕ) (c : Bool) (m : Does A) → At kept g m →
+    At kept g (unless_type_error s c >>= (λ _. m))
+at-unless kept g s true m pm = pm
+at-unless {A} kept g s false m pm = (keeps-type_error {A = A} kept s).goes g
+
 pub keeps-log : (kept : Kept) (i : Item) → Goes kept (log i)
 keeps-log kept i =
-    record { goes = λ k g p h. h Nothing (record g { log = g.log ++ (i ∷ []) }) (kept.log g (g.log ++ (i ∷ [])) p) }
+    record {
+      goes = λ g k b p h.
+          h Nothing (record g { log = g.log ++ (i ∷ []) }) (along-log kept g g (g.log ++ (i ∷ [])) (along-stays kept b g p));
+    }
 
 -- ---- the words that change an object, a scope, a queue
 
-thing-kept : (kept : Kept) (o : Val) (t : Thing) (g : Graph) → kept.holds g → kept.holds (with_thing o t g)
-thing-kept kept Undefined t g p = p
-thing-kept kept Null t g p = p
-thing-kept kept (Truth b) t g p = p
-thing-kept kept (Whole z) t g p = p
-thing-kept kept (Text x) t g p = p
-thing-kept kept (Symbol n) t g p = p
-thing-kept kept (Object n) t g p = kept.objects g _ p
-thing-kept kept (BuiltIn n) t g p = p
+altered-along : (kept : Kept) (g : Graph) (o : Val) (f : Thing → Thing) (x : Option Thing) → thing_at g o ≡ x →
+    ((t : Thing) → thing_at g o ≡ Some t → Change kept.cares g t (f t)) → Along kept g g → Along kept g (altered o f x g)
+altered-along kept g o f None at by p = p
+altered-along kept g o f (Some t) at by p = along-moved kept g g o t (f t) at (by t at) p
 
-altered-kept : (kept : Kept) (o : Val) (f : Thing → Thing) (t : Option Thing) (g : Graph) → kept.holds g →
-    kept.holds (altered o f t g)
-altered-kept kept o f None g p = p
-altered-kept kept o f (Some t) g p = thing-kept kept o (f t) g p
+pub at-alter : (kept : Kept) (g : Graph) (o : Val) (f : Thing → Thing) →
+    ((t : Thing) → thing_at g o ≡ Some t → Change kept.cares g t (f t)) → At kept g (alter o f)
+at-alter kept g o f by k b p h =
+    h Nothing (altered o f (thing_at g o) g) (altered-along kept g o f (thing_at g o) refl by (along-stays kept b g p))
 
-pub keeps-alter : (kept : Kept) (o : Val) (f : Thing → Thing) → Goes kept (alter o f)
-keeps-alter kept o f =
-    record { goes = λ k g p h. h Nothing (altered o f (thing_at g o) g) (altered-kept kept o f (thing_at g o) g p) }
-
-giving-kept : (kept : Kept) (x : Option (ℕ × ℕ)) (v : Val) (g : Graph) → kept.holds g → kept.holds (giving x v g)
-giving-kept kept None v g p = p
-giving-kept kept (Some x) v g p = kept.scopes g _ p
+giving-along : (kept : Kept) (f g : Graph) (x : Option (ℕ × ℕ)) (v : Val) → Along kept f g → Along kept f (giving x v g)
+giving-along kept f g None v p = p
+giving-along kept f g (Some x) v p = along-scopes kept f g _ p
 
 pub keeps-giving : (kept : Kept) (place : Graph → Option (ℕ × ℕ)) (v : Val) →
     Goes kept (change (λ g. giving (place g) v g))
 keeps-giving kept place v =
-    record { goes = λ k g p h. h Nothing (giving (place g) v g) (giving-kept kept (place g) v g p) }
+    record {
+      goes = λ g k b p h.
+          h Nothing (giving (place g) v g) (giving-along kept g g (place g) v (along-stays kept b g p));
+    }
 
 pub keeps-add_scope : (kept : Kept) (sc : Scope) → Goes kept (add_scope sc)
 keeps-add_scope kept sc =
-    record { goes = λ k g p h. h (length g.scopes) (record g { scopes = g.scopes ++ (sc ∷ []) }) (kept.scopes g (g.scopes ++ (sc ∷ [])) p) }
+    record {
+      goes = λ g k b p h.
+          h (length g.scopes) (record g { scopes = g.scopes ++ (sc ∷ []) })
+          (along-scopes kept g g (g.scopes ++ (sc ∷ [])) (along-stays kept b g p));
+    }
 
 pub keeps-with_job : (kept : Kept) (s : ℕ) (v : Val) → Goes kept (change (with_job s (CallJob v)))
-keeps-with_job kept s v = record { goes = λ k g p h. h Nothing (with_job s (CallJob v) g) (kept.job g s v p) }
+keeps-with_job kept s v =
+    record {
+      goes = λ g k b p h. h Nothing (with_job s (CallJob v) g) (along-job kept g g s v (along-stays kept b g p));
+    }
+
+-- what doesn't speak of objects stays where one takes another's place
+pub beside-objects : (Holding : Graph → Type 0) (g : Graph) (o : Val) (t : Thing) →
+    ((ts : List Thing) → Holding (record g { objects = ts })) → Holding g → Holding (with_thing o t g)
+beside-objects Holding g (Object n) t h k = h (slice_set g.objects n t)
+beside-objects Holding g Undefined t h k = k
+beside-objects Holding g Null t h k = k
+beside-objects Holding g (Truth b) t h k = k
+beside-objects Holding g (Whole z) t h k = k
+beside-objects Holding g (Text x) t h k = k
+beside-objects Holding g (Symbol x) t h k = k
+beside-objects Holding g (BuiltIn p) t h k = k

@@ -5,12 +5,13 @@ use Rattle.mb_world.specs.Value.{Val, Text, is_undefined, is_nullish}
 use Rattle.mb_world.specs.Key.{Named}
 use Rattle.mb_world.specs.Graph.{Fault}
 use Rattle.mb_world.specs.Standard.{error_prototype}
-use Rattle.mb_world.specs.Objects.{with_property, new_thing}
+use Rattle.mb_desc.specs.Descriptors.{descriptor_of}
+use Rattle.mb_world.specs.Objects.{new_thing}
 use Rattle.mb_model.specs.Task.{Answer, Value}
 use Rattle.mb_model.specs.Writing.{Does, ◌>>=◌, give, make}
-use Rattle.mb_model.specs.Operations.Makings.{alter}
 use Rattle.mb_model.specs.Operations.Conversions.{text_by}
 use Rattle.mb_model.specs.Operations.Calls.{list_of}
+use Rattle.mb_model.specs.Nodes.Literals.{prop_defined}
 use Rattle.mb_model.specs.BuiltIns.Arguments.{arg, need_callable, made_prototype}
 use Rattle.mb_model.specs.BuiltIns.ReflectMembers.{apply_listed}
 
@@ -18,10 +19,11 @@ use Rattle.mb_model.specs.BuiltIns.ReflectMembers.{apply_listed}
 
 -- ---- errors (ECMA-262 20.5)
 
+-- CreateNonEnumerableDataPropertyOrThrow (ECMA-262 7.3.7) on the new error, which nothing else has yet
 abbrev pub with_message : ℕ → Val → Val → Does Answer
 with_message s e m = do
   t ← text_by s m
-  _ ← alter e (with_property (Named (codes "message")) (Datum (Text t) true false true))
+  _ ← prop_defined s e (Named (codes "message")) (descriptor_of (Datum (Text t) true false true))
   give (Value e)
 
 abbrev pub error_message : ℕ → Val → Val → Does Answer

@@ -1,0 +1,6 @@
+//! How the objects of the graph change: each evolves, and so does what each side sees of it.
+#![tactic(auto)]
+
+mod laws;
+
+pub use laws::{a_side_sees_it_evolve, objects_evolve, objects_move, tasks_evolve};
