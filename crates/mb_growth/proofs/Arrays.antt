@@ -109,7 +109,7 @@ cut-moves t v n w formed at =
     moves-on t (holding (shrunk n t).left t) (cut_to (shrunk n t) w t) s.0 (set-length (holding (shrunk n t).left t) v (shrunk n t).length w s.0.0 s.1)
 
 -- ---- `length` is defined
-writable-length : (v : Val) (w : Bool) → (length_in (Some (Datum v w false false))).1 ≡ true → w ≡ true
+pub writable-length : (v : Val) (w : Bool) → (length_in (Some (Datum v w false false))).1 ≡ true → w ≡ true
 writable-length (Whole (pos n)) w h = h
 writable-length _ w h = absurd (let bad : false ≡ true = h in cc)
 
@@ -209,7 +209,7 @@ element-moves t u k d i b formed one other has h =
     (subst (λ (o : Option (Full Val)). element_defined t k d i (length_in o) ≡ Becomes u b) has.2 h)
 
 -- no array index is `length`
-index-other : (k : PropertyKey) (i : ℕ) → index_of_key k ≡ Some i → same_key length_key k ≡ false
+pub index-other : (k : PropertyKey) (i : ℕ) → index_of_key k ≡ Some i → same_key length_key k ≡ false
 index-other k i h = by (same_key length_key k) refl
   where
     by : (b : Bool) → same_key length_key k ≡ b → same_key length_key k ≡ false

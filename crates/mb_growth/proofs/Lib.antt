@@ -6,3 +6,6 @@ pub mod Graphs
 pub mod Sides
 pub mod Made
 pub mod Runs
+pub mod Turns
+pub mod Ends
+pub mod There

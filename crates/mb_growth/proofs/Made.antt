@@ -1,6 +1,7 @@
 -- Objects as rows make them are formed.
 use Rattle.std.proofs.Common.{◌≡◌, ℕ, ◌+◌, Bool, true, false, List, [], ◌∷◌, Option, None, Some, refl, sym, ◌∙◌, subst}
 use Rattle.std.specs.Prelude.{pos}
+use Rattle.std.specs.List.{IsDistinct}
 use Rattle.mb_desc.specs.declared.descriptor.Full.{Full}
 use Rattle.mb_desc.specs.declared.descriptor.Full.TheVariants.{Datum}
 use Rattle.mb_view.specs.Views.{HasDistinctKeys}
@@ -28,8 +29,13 @@ with-distinct k f t h =
     subst (HasDistinctKeys same_key) (sym (with-is k no_fields f t))
     (changed-distinct same_key (λ key. true) key-sound key-refl (Define k no_fields f) (as_view t) h)
 
+-- an object without properties
+pub nothing-distinct : IsDistinct same_key []
+unfolding IsDistinct
+nothing-distinct = tt
+
 puts-distinct : (t : Thing) (ps : List Property) → HasDistinctKeys same_key (as_view (record t { properties = put_each ps }))
-puts-distinct t [] = tt
+puts-distinct t [] = nothing-distinct
 puts-distinct t (p ∷ ps) = with-distinct p.key p.full (record t { properties = put_each ps }) (puts-distinct t ps)
 
 pub same-array : (k : Kind) → is_array k ≡ target_is_array k
@@ -61,7 +67,7 @@ array-formed s p n vs =
     let t : Thing = with_length n true (new_thing s None Array p) in
     let length : Full Val = Datum (Whole (pos n)) true false false in
     let h : Lengthy length (array_thing s p n vs) =
-    elements-lengthy length t 0 vs t.properties (with-distinct length_key length (new_thing s None Array p) tt, refl) in
+    elements-lengthy length t 0 vs t.properties (with-distinct length_key length (new_thing s None Array p) nothing-distinct, refl) in
     record { distinct = h.0; array = λ a. (Whole (pos n), true, h.1) }
 
 pub new-formed : (t : Thing) → IsNew t → IsFormed t

@@ -12,13 +12,14 @@ use Rattle.mb_model.specs.Operations.Calls.{target_is_array}
 use Rattle.mb_model.specs.Meaning.{Means}
 use Rattle.mb_model.proofs.Kept.Changes.{Change, Definition, PlainDefinition, Storing, Deletion, NewPrototype, Closing, Recast}
 use Rattle.mb_model.proofs.Kept.Words.{Kept}
-use Rattle.mb_model.proofs.Kept.Given.{means-goes}
+use Rattle.mb_model.proofs.Kept.Given.{keeps-given, means-goes}
 use Rattle.mb_growth.specs.Objects.{is_array, IsFormed}
 use Rattle.mb_growth.specs.Later.{Moves, AreFormed, EachEvolves}
-use Rattle.mb_growth.specs.Laws.{TasksEvolve}
+use Rattle.mb_growth.specs.Laws.{TasksEvolve, SidesSeeTasksEvolve}
 use Rattle.mb_growth.proofs.Steps.{later-refl, ordinary-moves, deletions-move, prototypes-move, closing-moves}
 use Rattle.mb_growth.proofs.Arrays.{definitions-move, elements-move}
 use Rattle.mb_growth.proofs.Graphs.{stays-later, goes-on-later, one-moves, one-is-made}
+use Rattle.mb_growth.proofs.Sides.{each-side-sees}
 use Rattle.mb_growth.proofs.Made.{new-formed, same-array}
 
 -- another kind, which is an array's as little or as much
@@ -40,10 +41,10 @@ change-moves g t u formed (Closing e) = subst (Moves t) e (closing-moves t forme
 change-moves g t u formed (Recast k same e) = subst (Moves t) e (recast-moves t k formed same)
 
 -- the graph is formed, and each object of an earlier one is there in a later form
-abbrev Grows : Graph → Graph → Type 0
+abbrev pub Grows : Graph → Graph → Type 0
 Grows f g = AreFormed g × EachEvolves f g
 
-change-grows : (g : Graph) (o : Val) (t u : Thing) → thing_at g o ≡ Some t → Change (Unit {0}) g t u → AreFormed g
+pub change-grows : (g : Graph) (o : Val) (t u : Thing) → thing_at g o ≡ Some t → Change (Unit {0}) g t u → AreFormed g
     → Grows g (with_thing o u g)
 change-grows g (Object n) t u at by formed = one-moves g (Object n) t u formed at (change-moves g t u (formed n t at) by)
 change-grows g Undefined t u at by formed = (formed, stays-later g)
@@ -54,7 +55,7 @@ change-grows g (Text x) t u at by formed = (formed, stays-later g)
 change-grows g (Symbol x) t u at by formed = (formed, stays-later g)
 change-grows g (BuiltIn p) t u at by formed = (formed, stays-later g)
 
-grows-on : (f g h : Graph) → Grows f g → Grows g h → Grows f h
+pub grows-on : (f g h : Graph) → Grows f g → Grows g h → Grows f h
 grows-on f g h p q = (q.0, goes-on-later f g h p.1 q.1)
 
 abbrev pub growing : Kept
@@ -74,3 +75,9 @@ growing = record {
 pub tasks-evolve : TasksEvolve
 tasks-evolve task graph fuel fit formed =
     means-goes growing task graph fuel (λ c. fit) (formed, stays-later graph)
+
+pub sides-see-tasks-evolve : SidesSeeTasksEvolve
+sides-see-tasks-evolve task graph fuel fit formed v n t at =
+    let later = (tasks-evolve task graph fuel fit formed).1 n t at in
+    let given = keeps-given task graph fuel in
+    (later.0, later.1, each-side-sees graph (state_of (Means task graph fuel)) v t later.0 given.1 later.2)

@@ -36,7 +36,7 @@ same-applies v t u r owner label =
     ap (λ (o : Option ℕ). foreign_owner v o && is_for v o t.label r) owner
     ∙ ap (λ (l : Option (List ℕ)). foreign_owner v u.owner && is_for v u.owner l r) label
 
-same-key-rule : (k : PropertyKey) (v : ℕ) (t u : Thing) (rs : List Rule) → t.owner ≡ u.owner → t.label ≡ u.label → find_key_rule k v t rs ≡ find_key_rule k v u rs
+pub same-key-rule : (k : PropertyKey) (v : ℕ) (t u : Thing) (rs : List Rule) → t.owner ≡ u.owner → t.label ≡ u.label → find_key_rule k v t rs ≡ find_key_rule k v u rs
 same-key-rule k v t u [] owner label = refl
 same-key-rule k v t u (r ∷ rs) owner label =
     ap (λ (b : Bool). if b && names_key k r.kind then Some r.kind else find_key_rule k v t rs) (same-applies v t u r owner label)

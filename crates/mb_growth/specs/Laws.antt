@@ -1,12 +1,12 @@
 -- How objects of the graph change: what is proved of each single change, and of many.
-use Rattle.std.specs.Prelude.{◌≡◌, ℕ, Bool, true, Some}
+use Rattle.std.specs.Prelude.{◌≡◌, ℕ, List, Bool, true, Some, slice_get}
 use Rattle.mb_desc.specs.declared.descriptor.Desc.{Desc}
 use Rattle.mb_desc.specs.Descriptors.{IsOfOneKind}
 use Rattle.mb_view.specs.Views.{property_of, Evolves}
 use Rattle.mb_view.specs.Shown.{shown}
 use Rattle.mb_world.specs.Value.{Val}
 use Rattle.mb_world.specs.Key.{PropertyKey, same_key}
-use Rattle.mb_world.specs.Graph.{Graph, Thing}
+use Rattle.mb_world.specs.Graph.{Graph, Thing, Program, Rule}
 use Rattle.mb_world.specs.Objects.{thing_at, with_thing}
 use Rattle.mb_world.specs.Ordinary.{Becomes, closed, with_prototype, Without, deleted}
 use Rattle.mb_world.specs.Arrays.{defined, element_stored}
@@ -16,6 +16,7 @@ use Rattle.mb_model.specs.Task.{Task}
 use Rattle.mb_model.specs.Fitting.{Fits}
 use Rattle.mb_model.specs.Writing.{with_object}
 use Rattle.mb_model.specs.Meaning.{Means}
+use Rattle.mb_model.specs.Story.{Stage, Letter, one_turn, one_letter, first_graph, Story}
 use Rattle.mb_growth.specs.Objects.{as_view, sort_of, IsFormed, is_array, rule_of}
 use Rattle.mb_growth.specs.Later.{IsLater, Moves, AreFormed, EachEvolves}
 
@@ -81,3 +82,30 @@ EachSideSees = (g h : Graph) (v : ℕ) (t u : Thing) → h.rules ≡ g.rules →
 abbrev pub TasksEvolve : Type 0
 TasksEvolve = (task : Task) (graph : Graph) (fuel : ℕ) → Fits task graph → AreFormed graph
     → AreFormed (state_of (Means task graph fuel)) × EachEvolves graph (state_of (Means task graph fuel))
+
+-- what each side sees of an object evolves with it along a task
+abbrev pub SidesSeeTasksEvolve : Type 0
+SidesSeeTasksEvolve = (task : Task) (graph : Graph) (fuel : ℕ) → Fits task graph → AreFormed graph → (v n : ℕ) (t : Thing)
+    → slice_get graph.objects n ≡ Some t
+    → (u : Thing) × (slice_get (state_of (Means task graph fuel)).objects n ≡ Some u)
+    × Evolves same_key sort_of (shown (rule_of graph v t) (as_view t))
+    (shown (rule_of (state_of (Means task graph fuel)) v u) (as_view u))
+
+-- ---- along a whole run
+
+abbrev pub FirstIsFormed : Type 0
+FirstIsFormed = (programs : List Program) (rules : List Rule) → AreFormed (first_graph programs rules)
+
+-- a side's turn, and a letter of the word
+abbrev pub TurnsEvolve : Type 0
+TurnsEvolve = (stage : Stage) (side : ℕ) → AreFormed stage.graph → AreFormed (one_turn stage side).graph
+    × EachEvolves stage.graph (one_turn stage side).graph
+
+abbrev pub LettersEvolve : Type 0
+LettersEvolve = (stage : Stage) (letter : Letter) → AreFormed stage.graph → AreFormed (one_letter stage letter).graph
+    × EachEvolves stage.graph (one_letter stage letter).graph
+
+abbrev pub RunsEvolve : Type 0
+RunsEvolve = (programs : List Program) (rules : List Rule) (word : List Letter) (fuel : ℕ)
+    → AreFormed (Story programs rules word fuel).graph
+    × EachEvolves (first_graph programs rules) (Story programs rules word fuel).graph

@@ -3,4 +3,4 @@
 
 mod laws;
 
-pub use laws::{a_side_sees_it_evolve, objects_evolve, objects_move, tasks_evolve};
+pub use laws::{a_side_sees_it_evolve, objects_evolve, objects_move, runs_evolve, tasks_evolve};
