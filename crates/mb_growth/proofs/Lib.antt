@@ -7,5 +7,9 @@ pub mod Sides
 pub mod Made
 pub mod Runs
 pub mod Turns
+pub mod Seen
 pub mod Ends
 pub mod There
+pub mod Answered
+pub mod Checked
+pub mod Needed

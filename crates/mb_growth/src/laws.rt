@@ -1,4 +1,6 @@
 // The laws of single changes, and of graphs.
+ghost use Rattle.mb_growth.specs.Answered.{OrdinaryEntriesPass, ChecksTell};
+ghost use Rattle.mb_growth.specs.Needs.{WalksMustFit, DefinitionsMustFit};
 ghost use Rattle.mb_growth.specs.Laws.{DefinitionsMove, ElementsMove, DeletionsMove, PrototypesMove, ClosingMoves, StaysLater, GoesOnLater, OneMoves, OneIsMade, SeesByRules, EachSideSees, TasksEvolve, SidesSeeTasksEvolve, FirstIsFormed, TurnsEvolve, LettersEvolve, RunsEvolve};
 
 /// Whatever an internal method makes of an object, the object evolves, and keeps its owner and label.
@@ -37,4 +39,23 @@ pub fn runs_evolve()
     ensures turns { TurnsEvolve }
     ensures letters { LettersEvolve }
     ensures whole { RunsEvolve }
+{}
+
+/// What a method of an object that is no script-made Proxy answers passes the checks of a Proxy's trap against what the
+/// side sees of the object: `has`, `get` and `set` as they begin, every other method as it ends.
+pub fn ordinary_entries_pass()
+    ensures { OrdinaryEntriesPass }
+{}
+
+/// What the checks of a Proxy's traps let pass, with a view in the place of the target, passes against that view, whatever
+/// the entry; `has`, `get` and `set` apart.
+pub fn checks_tell()
+    ensures { ChecksTell }
+{}
+
+/// Without tasks that fit no object need evolve: a walk for an object that isn't extensible sets its prototype, and a
+/// descriptor with fields of both kinds turns a fixed accessor into a value.
+pub fn tasks_must_fit()
+    ensures walks { WalksMustFit }
+    ensures definitions { DefinitionsMustFit }
 {}
