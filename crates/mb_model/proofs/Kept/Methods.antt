@@ -14,7 +14,8 @@ use Rattle.mb_model.specs.Operations.Makings.{alter}
 use Rattle.mb_model.specs.Objects.Methods.{walk_ends, prototype_set, walk_from, walk_at, walk_row, walk_unless, ordinary_set_prototype, ordinary_delete, ordinary, change_of, ruling, ruled, method}
 use Rattle.mb_model.specs.Objects.Proxies.{trap_callable, trap_got, proxy_method}
 use Rattle.mb_world.specs.Key.{Named}
-use Rattle.mb_model.specs.Trace.Ops.{op_of, op_name}
+use Rattle.mb_world.specs.EntryLine.{op_name}
+use Rattle.mb_model.specs.Trace.Ops.{op_of}
 use Rattle.mb_model.specs.Meaning.{perform_kind, perform_thing, perform_row}
 use Rattle.mb_model.proofs.Kept.Changes.{Change, Definition, Deletion, NewPrototype, Closing}
 use Rattle.mb_model.proofs.Kept.Words.{Kept, At, Goes, at-then, at-alter, at-again, at-unless, keeps->>=, keeps-if, keeps-give, keeps-yes_or_no, keeps-answer, keeps-type_error}

@@ -8,15 +8,8 @@ use Rattle.mb_desc.specs.Descriptors.{Complete}
 use Rattle.mb_world.specs.Objects.{is_callable}
 use Rattle.mb_check.specs.declared.verdict.Verdict.{Verdict}
 use Rattle.mb_check.specs.declared.verdict.Verdict.TheVariants.{Pass, Broken}
-<<<<<<< HEAD
-use Rattle.mb_world.specs.EntryLine.{op_name}
-use Rattle.mb_model.specs.Trace.Ops.{op_of}
-use Rattle.mb_model.specs.Task.{Perform, Answer, Nothing, Value, Flag, Prop, Keys, Method, GetPrototypeOf, SetPrototypeOf, IsExtensible, PreventExtensions, GetOwnProperty, DefineOwnProperty, HasProperty, Get, Set, Delete, OwnPropertyKeys, Call, Construct}
-use Rattle.mb_model.specs.Writing.{◌>>=◌, give, look, answer, value, keys, perform, type_error, unless_type_error}
-=======
 use Rattle.mb_model.specs.Task.{Answer, Nothing, Value, Flag, Prop, Keys, Method, GetPrototypeOf, SetPrototypeOf, IsExtensible, PreventExtensions, GetOwnProperty, DefineOwnProperty, HasProperty, Get, Set, Delete, OwnPropertyKeys, Call, Construct}
 use Rattle.mb_model.specs.Writing.{◌>>=◌, give, look, value, keys, perform, type_error, unless_type_error}
->>>>>>> c23e7bf (What rows keep is a relation; along every task each object evolves (mb_growth))
 use Rattle.mb_model.specs.Operations.Makings.{make_array}
 use Rattle.mb_model.specs.Operations.Calls.{get, list_of}
 use Rattle.mb_model.specs.Operations.Descriptors.{todesc, fromdesc}
