@@ -130,7 +130,7 @@ module _ (d : Data) (distinct : AreDistinct d.texts) where
       let la : spelled_index (text_at d.texts a) < 2 ^ 32 - 1 = let y : i ≡ spelled_index (text_at d.texts a) = h.1 in omega (arith, y, low) in
       let lb : spelled_index (text_at d.texts b) < 2 ^ 32 - 1 = let y : j ≡ spelled_index (text_at d.texts b) = g.1 in omega (arith, y, low, s) in
       let t : text_at d.texts a ≡ text_at d.texts b =
-          sym (decimal-index_of (text_at d.texts a) la) ∙ ap decimal (sym h.1 ∙ sym s ∙ g.1) ∙ decimal-index_of (text_at d.texts b) lb in
+      sym (decimal-index_of (text_at d.texts a) la) ∙ ap decimal (sym h.1 ∙ sym s ∙ g.1) ∙ decimal-index_of (text_at d.texts b) lb in
       let x : a ≡ b = text-apart d distinct a b h.0 g.0 t in
       ap (λ (z : StrId). same_key (Text a i) (Text z j)) (sym x) ∙ ap (λ z. same_key (Text a i) (Text a z)) s ∙ own-same (Text a i)
   one-key (Text a i) (Symbol b) h g e s = absurd (eqb-false i (2 ^ 32 - 1) (not-true _ e) (sym s))

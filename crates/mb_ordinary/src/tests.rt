@@ -95,7 +95,7 @@ fn world(rt: &HostRuntime) -> Result<World, Fail> {
 }
 
 fn make(
-    rt: &HostRuntime,
+    rt: &impl Abort,
     w: &mut World,
     home: Side,
     kind: CellKind,
@@ -119,12 +119,12 @@ fn make(
     Ok(w.make(home, kind, proto, None)?)
 }
 
-fn plain(rt: &HostRuntime, w: &mut World, home: Side, proto: Value) -> Result<ObjId, Fail> {
+fn plain(rt: &impl Abort, w: &mut World, home: Side, proto: Value) -> Result<ObjId, Fail> {
     make(rt, w, home, CellKind::Plain, proto)
 }
 
 // A membrane proxy of that side, with the object behind it.
-fn proxy(rt: &HostRuntime, w: &mut World, home: Side, behind: ObjId) -> Result<Value, Fail> {
+fn proxy(rt: &impl Abort, w: &mut World, home: Side, behind: ObjId) -> Result<Value, Fail> {
     let shadow = behind;
     let id = make(
         rt,
@@ -137,7 +137,7 @@ fn proxy(rt: &HostRuntime, w: &mut World, home: Side, behind: ObjId) -> Result<V
 }
 
 fn defines(
-    rt: &HostRuntime,
+    rt: &impl Abort,
     w: &mut World,
     o: ObjId,
     text: u32,
@@ -149,18 +149,18 @@ fn defines(
     Ok(define(w, o, key, desc)?)
 }
 
-fn deletes(rt: &HostRuntime, w: &mut World, o: ObjId, text: u32) -> bool {
+fn deletes(rt: &impl Abort, w: &mut World, o: ObjId, text: u32) -> bool {
     ordinary(rt, w, o);
     let key = key(rt, w, text);
     delete(w, o, key)
 }
 
-fn owns(rt: &HostRuntime, w: &World, o: ObjId, text: u32) -> Option<Full<Value>> {
+fn owns(rt: &impl Abort, w: &World, o: ObjId, text: u32) -> Option<Full<Value>> {
     ordinary(rt, w, o);
     own(w, o, key(rt, w, text))
 }
 
-fn looks(rt: &HostRuntime, w: &World, o: ObjId, text: u32) -> (Look, SetStep) {
+fn looks(rt: &impl Abort, w: &World, o: ObjId, text: u32) -> (Look, SetStep) {
     ordinary(rt, w, o);
     let key = key(rt, w, text);
     (look(w, o, key), set_step(w, o, key))
@@ -168,7 +168,7 @@ fn looks(rt: &HostRuntime, w: &World, o: ObjId, text: u32) -> (Look, SetStep) {
 
 // What setting a prototype with so many units answers, and how many are left.
 fn sets(
-    rt: &HostRuntime,
+    rt: &impl Abort,
     w: &mut World,
     o: ObjId,
     p: Value,
