@@ -1,0 +1,7 @@
+mod Values
+mod Accepting
+mod SameKeys
+mod Changes
+mod Spelled
+mod Sorting
+mod Shrinking

@@ -1,0 +1,4 @@
+pub mod Objects
+pub mod Definitions
+pub mod Define
+pub mod machine

@@ -1,0 +1,48 @@
+-- What each of the calls within does, by the pure definition that it carries out.
+use Rattle.std.specs.Prelude.{◌≡◌, ◌<◌, ◌^◌, ℕ, List, Bool, false, Option, Some, None, All, option_map, pos, MatchResult}
+use Rattle.std.specs.declared.result.Result.{Result}
+use Rattle.mb_base.specs.declared.NoMemory.{NoMemory}
+use Rattle.mb_base.specs.declared.value.Key.{Key}
+use Rattle.mb_base.specs.declared.value.ObjId.{ObjId}
+use Rattle.mb_base.specs.declared.value.Value.{Value}
+use Rattle.mb_base.specs.declared.value.Value.TheVariants as v
+use Rattle.mb_desc.specs.declared.descriptor.Desc.{Desc}
+use Rattle.mb_desc.specs.declared.descriptor.Full.TheVariants.{Datum}
+use Rattle.mb_desc.specs.Descriptors.{IsOfOneKind}
+use Rattle.mb_world.specs.Ordinary.{Defined as Outcome}
+use Rattle.mb_world.specs.Data.{Data, cell_at, property_at, change_cell, length_key, length_units}
+use Rattle.mb_world.specs.Key.{Named}
+use Rattle.mb_world.specs.Ids.{ObjIn, KeyIn}
+use Rattle.mb_world.specs.Image.{names_of, key_in}
+use Rattle.mb_array.specs.declared.Defined.{Defined}
+use Rattle.mb_array.specs.Objects.{object_of}
+use Rattle.mb_array.specs.Definitions.{DescIn, TellsApart, compared}
+use Rattle.mb_array.specs.Define.{told, left, changes, table_in, with_table, known_values, HoldsKnown}
+
+-- the conditions of a definition
+pub record CanDefine (d : Data) (o : ObjId) (key : Key) (desc : Desc Value) : Type 0 where
+  pub object : ObjIn d o
+  pub key_there : KeyIn d key
+  pub desc_there : DescIn d desc
+  pub one_kind : IsOfOneKind desc
+  pub apart : TellsApart d (compared d o key desc)
+
+-- the array's `length`, as it was read
+pub record LengthIs (d : Data) (o : ObjId) (key : Key) (n : ℕ) (writable : Bool) : Type 0 where
+  pub key_is : key ≡ length_key d.texts
+  pub named : key_in (names_of d) key ≡ Named length_units
+  pub key_there : KeyIn d key
+  pub there : property_at d o key ≡ Some (Datum (v.Whole (pos n)) writable false false)
+  pub limit : n < 2 ^ 32
+
+-- the cell is what the outcome says, all else is as before, and each object in it was there or was given
+pub record Done (d : Data) (o : ObjId) (desc : Desc Value) (x : Outcome) (d' : Data) : Type 0 where
+  pub cell : option_map (object_of (names_of d)) (cell_at d' o)
+      ≡ option_map (left x) (option_map (object_of (names_of d)) (cell_at d o))
+  pub rest : d' ≡ change_cell d o (with_table (table_in (cell_at d' o)))
+  pub unchanged : changes x ≡ false → d' ≡ d
+  pub objects : All (HoldsKnown (known_values (table_in (cell_at d o)) desc)) (table_in (cell_at d' o))
+
+-- the call carries out that outcome, or memory wasn't there
+abbrev pub Ends : Data → ObjId → Desc Value → Outcome → Result Defined NoMemory → Data → Type 0
+Ends d o desc x r d' = MatchResult r (λ answer. (answer ≡ told x) × Done d o desc x d') (λ e. d' ≡ d)
