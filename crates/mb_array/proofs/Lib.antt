@@ -1,7 +1,8 @@
-mod Values
-mod Accepting
-mod SameKeys
 mod Changes
 mod Spelled
 mod Sorting
 mod Shrinking
+mod Known
+mod Doing
+mod Stepping
+mod Lengths

@@ -1,23 +1,29 @@
 -- What a table loses past a shorter length is what the object loses that it stands for.
-use Rattle.std.proofs.Common.{◌≡◌, ℕ, suc, ◌+◌, ◌-◌, ◌^◌, ◌<◌, ◌≤◌, Bool, true, false, not, ◌&&◌, nat_eq, nat_le, List, [], ◌∷◌, ◌++◌, map, reverse, Option, Some, None, option_map, if◌then◌else◌, refl, sym, ap, ◌∙◌, arith, true≢false, subst}
+use Rattle.std.proofs.Common.{◌≡◌, ℕ, suc, ◌+◌, ◌-◌, ◌^◌, ◌<◌, ◌≤◌, Bool, true, false, not, ◌&&◌, nat_eq, nat_le, List, [], ◌∷◌, ◌++◌, map, reverse, Option, Some, None, option_map, if◌then◌else◌, refl, sym, ap, ◌∙◌, arith, true≢false, subst, get_or}
 use Rattle.std.specs.Prelude.{All}
 use Rattle.std.specs.List.{filter, IsDistinct}
 use Rattle.std.specs.Map.{keys_of, lookup, remove_entry}
+use Rattle.mb_props.proofs.Order.{filter-same, filter-both}
+use Rattle.mb_props.specs.KeyOrder.{array_indices}
 use Rattle.std.proofs.lemmas.Bool.{leb-true, ne_eqb, eq-eqb}
-use Rattle.std.proofs.lemmas.List.Elements.{All-cons, All-head, All-tail, All-filter}
+use Rattle.std.proofs.lemmas.List.Elements.{All-cons, All-head, All-tail, All-filter, filter_passes}
 use Rattle.std.proofs.lemmas.List.Sorted.{All-permutation, IsPermutation-reverse}
 use Rattle.std.proofs.lemmas.List.{map-append}
 use Rattle.std.proofs.lemmas.Grind.{reverse_onto}
 use Rattle.mb_base.specs.declared.value.Key.{Key}
+use Rattle.mb_base.specs.declared.value.Key.TheVariants.{Text, Symbol}
+use Rattle.mb_base.specs.declared.value.StrId.{StrId}
 use Rattle.mb_base.specs.declared.value.Value.{Value}
 use Rattle.mb_desc.specs.declared.descriptor.Full.{Full}
 use Rattle.mb_desc.specs.declared.descriptor.Full.TheVariants.{Datum, Accessor}
-use Rattle.mb_text.specs.Texts.{AreDistinct}
+use Rattle.mb_text.specs.Index.{index_of as spelled_index}
+use Rattle.mb_text.specs.Texts.{AreDistinct, text_at}
+use Rattle.mb_text.proofs.Indices.{index_of-le}
 use Rattle.mb_props.specs.Table.{same_key, found, without, HasDistinctKeys}
 use Rattle.mb_props.specs.KeyOrder.{index_of, is_array_index}
 use Rattle.mb_world.specs.Graph.{Thing}
 use Rattle.mb_world.specs.Objects.{property_keys, find_property}
-use Rattle.mb_world.specs.Property.{is_fixed, property_is}
+use Rattle.mb_desc.specs.Descriptors.{is_fixed, property_is}
 use Rattle.mb_world.specs.Arrays.{Shrunk, shrink, shrunk, indices_from}
 use Rattle.mb_world.specs.Key.{indices}
 use Rattle.mb_world.specs.Data.{Data}
@@ -25,8 +31,8 @@ use Rattle.mb_world.specs.Ids.{KeyIn, PropertyIn}
 use Rattle.mb_world.specs.Image.{Names, names_of, full_in, key_in, property_in}
 use Rattle.mb_world.proofs.Worlds.{All-without}
 use Rattle.mb_array.specs.machine.Cutting.{is_from, AreIndicesFrom, Cut, cut_of}
-use Rattle.mb_array.proofs.SameKeys.{find-found, remove-without, own-equal}
-use Rattle.mb_array.proofs.Sorting.{in_order, are-indices, All-in_order, from-is, indexed, indices-are, indices-from}
+use Rattle.mb_ordinary.proofs.SameKeys.{find-found, remove-without, own-equal}
+use Rattle.mb_array.proofs.Sorting.{low-index, in_order, in-order, are-indices, All-in_order, indexed, indices-are}
 
 and-second : (a b : Bool) → a && b ≡ true → b ≡ true
 and-second true b h = h
@@ -51,12 +57,38 @@ keys-in : (d : Data) (ps : List (Key × Full Value)) → All (PropertyIn d) ps �
 keys-in d [] h = λ k x l. absurd (omega arith)
 keys-in d (p ∷ ps) h = All-cons (KeyIn d) p.0 (keys_of ps) (All-head (PropertyIn d) p ps h).0 (keys-in d ps (All-tail (PropertyIn d) p ps h))
 
+-- ---- the indices from a place on
+
+module _ (d : Data) (distinct : AreDistinct d.texts) where
+  pub indices-from : (n : ℕ) (ks : List Key) → All (λ k. is_array_index k ≡ true) ks → indices_from n (map (indexed d distinct) ks) ≡ map (indexed d distinct) (filter (is_from n) ks)
+  indices-from n [] h = refl
+  indices-from n (k ∷ ks) h = by (nat_le n (index_of k)) refl (indices-from n ks (All-tail (λ k. is_array_index k ≡ true) k ks h))
+    where
+      here : is_array_index k ≡ true
+      here = All-head (λ k. is_array_index k ≡ true) k ks h
+
+      by : (b : Bool) → nat_le n (index_of k) ≡ b → indices_from n (map (indexed d distinct) ks) ≡ map (indexed d distinct) (filter (is_from n) ks) → indices_from n (map (indexed d distinct) (k ∷ ks)) ≡ map (indexed d distinct) (filter (is_from n) (k ∷ ks))
+      by true e r = rw (here, e) (ap (λ z. indexed d distinct k ∷ z) r)
+      by false e r = rw (here, e) r
+
+  pub from-is : (n : ℕ) (ks from : List Key) → All (KeyIn d) ks → IsDistinct same_key ks → AreIndicesFrom n ks from → from ≡ filter (is_from n) (in_order ks)
+  from-is n ks from g u h = h.kept ∙ sym (filter-both (is_from n) is_array_index h.ordered ∙ filter-same _ _ same h.ordered) ∙ ap (filter (is_from n)) (in-order d distinct ks h.ordered g u h.order)
+    where
+      twice : (a b : Bool) → a && (a && b) ≡ a && b
+      twice true b = refl
+      twice false b = refl
+
+      same : (k : Key) → is_array_index k && is_from n k ≡ is_from n k
+      same k = twice (is_array_index k) (nat_le n (index_of k))
+
+-- ---- the cut
+
 -- the record of the definition, over what a cut table stands for
 abbrev pub shrunk_of : Names → Cut → Shrunk
 shrunk_of n x = record { left = map (property_in n) x.left; length = x.length; whole = x.whole }
 
 module _ (d : Data) (distinct : AreDistinct d.texts) where
-  cut-shrinks : (ks : List Key) (n : ℕ) (ps : List (Key × Full Value)) → All (KeyIn d) ks → All (PropertyIn d) ps → shrink (map (indexed d) ks) n (map (property_in (names_of d)) ps) ≡ shrunk_of (names_of d) (cut_of ks n ps)
+  cut-shrinks : (ks : List Key) (n : ℕ) (ps : List (Key × Full Value)) → All (KeyIn d) ks → All (PropertyIn d) ps → shrink (map (indexed d distinct) ks) n (map (property_in (names_of d)) ps) ≡ shrunk_of (names_of d) (cut_of ks n ps)
   cut-shrinks [] n ps h g = refl
   cut-shrinks (k ∷ ks) n ps h g = by (property_is is_fixed (found ps k)) refl (cut-shrinks ks n (without ps k) (All-tail (KeyIn d) k ks h) (All-without (PropertyIn d) ps (same_key k) g))
     where
@@ -66,28 +98,56 @@ module _ (d : Data) (distinct : AreDistinct d.texts) where
       test : property_is is_fixed (find_property (key_in (names_of d) k) (map (property_in (names_of d)) ps)) ≡ property_is is_fixed (found ps k)
       test = ap (property_is is_fixed) (find-found d distinct ps k g here) ∙ fixed-in (names_of d) (found ps k)
 
-      by : (b : Bool) → property_is is_fixed (found ps k) ≡ b → shrink (map (indexed d) ks) n (map (property_in (names_of d)) (without ps k)) ≡ shrunk_of (names_of d) (cut_of ks n (without ps k)) → shrink (map (indexed d) (k ∷ ks)) n (map (property_in (names_of d)) ps) ≡ shrunk_of (names_of d) (cut_of (k ∷ ks) n ps)
+      by : (b : Bool) → property_is is_fixed (found ps k) ≡ b → shrink (map (indexed d distinct) ks) n (map (property_in (names_of d)) (without ps k)) ≡ shrunk_of (names_of d) (cut_of ks n (without ps k)) → shrink (map (indexed d distinct) (k ∷ ks)) n (map (property_in (names_of d)) ps) ≡ shrunk_of (names_of d) (cut_of (k ∷ ks) n ps)
       by true e r = rw (test, e) refl
-      by false e r = rw (test, e) (ap (λ z. shrink (map (indexed d) ks) n z) (sym (remove-without d distinct ps k g here)) ∙ r)
+      by false e r = rw (test, e) (ap (λ z. shrink (map (indexed d distinct) ks) n z) (sym (remove-without d distinct ps k g here)) ∙ r)
 
   -- what is shrunk is what is cut, over the keys as they are read
   pub cut-is : (n : ℕ) (t : Thing) (ps : List (Key × Full Value)) (from : List Key) → t.properties ≡ map (property_in (names_of d)) ps → All (PropertyIn d) ps → HasDistinctKeys ps → AreIndicesFrom n (keys_of ps) from → shrunk n t ≡ shrunk_of (names_of d) (cut_of (reverse from) n ps)
   cut-is n t ps from e g u h =
       let ks : List Key = keys_of ps in
       let in_ks : All (KeyIn d) ks = keys-in d ps g in
-      let is : indices_from n (indices (property_keys t.properties)) ≡ map (indexed d) from =
+      let is : indices_from n (indices (property_keys t.properties)) ≡ map (indexed d distinct) from =
           ap (λ r. indices_from n (indices (property_keys r))) e
           ∙ ap (λ r. indices_from n (indices r)) (keys-map (names_of d) ps)
           ∙ ap (indices_from n) (indices-are d distinct ks in_ks)
-          ∙ indices-from d n (in_order ks) (are-indices ks)
-          ∙ ap (map (indexed d)) (sym (from-is d distinct n ks from in_ks u h)) in
+          ∙ indices-from d distinct n (in_order ks) (are-indices ks)
+          ∙ ap (map (indexed d distinct)) (sym (from-is d distinct n ks from in_ks u h)) in
       ap (λ r. shrink (reverse r) n t.properties) is
-      ∙ ap (λ r. shrink r n t.properties) (reverse-map (indexed d) from)
-      ∙ ap (shrink (map (indexed d) (reverse from)) n) e
+      ∙ ap (λ r. shrink r n t.properties) (reverse-map (indexed d distinct) from)
+      ∙ ap (shrink (map (indexed d distinct) (reverse from)) n) e
       ∙ cut-shrinks (reverse from) n ps (from-in ks from in_ks u h) g
     where
       from-in : (ks from : List Key) → All (KeyIn d) ks → IsDistinct same_key ks → AreIndicesFrom n ks from → All (KeyIn d) (reverse from)
       from-in ks from in_ks u h = All-permutation (KeyIn d) from (reverse from) (IsPermutation-reverse from) (subst (All (KeyIn d)) (sym (from-is d distinct n ks from in_ks u h)) (All-filter (is_from n) (KeyIn d) (in_order ks) (All-in_order (KeyIn d) ks in_ks)))
+
+-- ---- what is cut
+
+pub all-from : (n : ℕ) (ks from : List Key) → AreIndicesFrom n ks from → All (λ k. is_from n k ≡ true) from
+all-from n ks from h = subst (All (λ k. is_from n k ≡ true)) (sym h.kept) (filter_passes (is_from n) h.ordered)
+
+and-first : (a b : Bool) → a && b ≡ true → a ≡ true
+and-first true b h = refl
+and-first false b h = absurd (true≢false (sym h))
+
+low-key : (d : Data) (k : Key) → KeyIn d k → is_array_index k ≡ true → index_of k < 2 ^ 32 - 1
+low-key d (Text a i) h e = low-index i (let z = index_of-le (text_at d.texts a) in let y : i ≡ spelled_index (text_at d.texts a) = h.1 in omega (arith, z, y)) e
+low-key d (Symbol a) h e = absurd (true≢false (sym e))
+
+pub low-keys : (d : Data) (n : ℕ) (ps : List (Key × Full Value)) (from : List Key) → All (PropertyIn d) ps → AreIndicesFrom n (keys_of ps) from → All (λ k. index_of k < 2 ^ 32 - 1) from
+low-keys d n ps from g h i e l =
+    let in_ordered : All (KeyIn d) h.ordered = All-permutation (KeyIn d) (keys_of ps) h.ordered h.order.permutation (keys-in d ps g) in
+    let in_from : All (KeyIn d) from = subst (All (KeyIn d)) (sym h.kept) (All-filter (is_from n) (KeyIn d) h.ordered in_ordered) in
+    low-key d (get_or from i e) (in_from i e l) (and-first (is_array_index (get_or from i e)) (nat_le n (index_of (get_or from i e))) (all-from n (keys_of ps) from h i e l))
+
+-- no array index is a name
+pub no-name : (a : StrId) (k : Key) → index_of k < 2 ^ 32 - 1 → same_key (Text a (2 ^ 32 - 1)) k ≡ false
+no-name a (Symbol b) h = refl
+no-name a (Text b j) h = by (nat_eq a.0 b.0) (ne_eqb (2 ^ 32 - 1) j (λ e. omega (arith, e, h)))
+  where
+    by : (x : Bool) → nat_eq (2 ^ 32 - 1) j ≡ false → x && nat_eq (2 ^ 32 - 1) j ≡ false
+    by true e = e
+    by false e = refl
 
 -- ---- what the cut leaves
 

@@ -20,8 +20,8 @@ use Rattle.mb_world.specs.Data.{Data}
 use Rattle.mb_world.specs.Ids.{KeyIn}
 use Rattle.mb_world.specs.Image.{names_of, key_in}
 use Rattle.mb_array.specs.machine.Cutting.{index_in, is_from, AreIndicesFrom}
-use Rattle.mb_array.proofs.Values.{text-apart}
-use Rattle.mb_array.proofs.SameKeys.{own-same}
+use Rattle.mb_ordinary.proofs.Values.{text-apart}
+use Rattle.mb_ordinary.proofs.SameKeys.{own-same}
 use Rattle.mb_array.proofs.Spelled.{key-index}
 
 -- ---- keys put in order by their index
@@ -121,7 +121,7 @@ not-true : (b : Bool) → not b ≡ true → b ≡ false
 not-true true h = absurd (true≢false (sym h))
 not-true false h = refl
 
-low-index : (i : ℕ) → i ≤ 2 ^ 32 - 1 → not (nat_eq i (2 ^ 32 - 1)) ≡ true → i < 2 ^ 32 - 1
+pub low-index : (i : ℕ) → i ≤ 2 ^ 32 - 1 → not (nat_eq i (2 ^ 32 - 1)) ≡ true → i < 2 ^ 32 - 1
 low-index i l e = let n : i ≡ 2 ^ 32 - 1 → ⊥ = eqb-false i (2 ^ 32 - 1) (not-true _ e) in omega (arith, l, n)
 
 module _ (d : Data) (distinct : AreDistinct d.texts) where
@@ -179,18 +179,6 @@ module _ (d : Data) (distinct : AreDistinct d.texts) where
       of-index : (i : ℕ) (xs : List Key) → filter (at_index i) (array_indices xs) ≡ filter is_array_index (filter (has_index i) xs)
       of-index i xs = filter-both (at_index i) is_array_index xs ∙ filter-same _ _ (same i) xs ∙ sym (filter-both is_array_index (has_index i) xs)
 
-  -- ---- and those from a place on
-
-  pub from-is : (n : ℕ) (ks from : List Key) → All (KeyIn d) ks → IsDistinct same_key ks → AreIndicesFrom n ks from → from ≡ filter (is_from n) (in_order ks)
-  from-is n ks from g u h = h.kept ∙ sym (filter-both (is_from n) is_array_index h.ordered ∙ filter-same _ _ same h.ordered) ∙ ap (filter (is_from n)) (in-order ks h.ordered g u h.order)
-    where
-      twice : (a b : Bool) → a && (a && b) ≡ a && b
-      twice true b = refl
-      twice false b = refl
-
-      same : (k : Key) → is_array_index k && is_from n k ≡ is_from n k
-      same k = twice (is_array_index k) (nat_le n (index_of k))
-
   -- ---- what the definition makes of the keys that they stand for
 
   abbrev pub indexed : Key → ℕ × PropertyKey
@@ -211,14 +199,3 @@ module _ (d : Data) (distinct : AreDistinct d.texts) where
       by : (b : Bool) → with_index (key_in (names_of d) k) (if b then Some (index_of k) else None) (map indexed (in_order ks)) ≡ map indexed (put_if b k (in_order ks))
       by true = put-indexed k (in_order ks)
       by false = refl
-
-  pub indices-from : (n : ℕ) (ks : List Key) → All (λ k. is_array_index k ≡ true) ks → indices_from n (map indexed ks) ≡ map indexed (filter (is_from n) ks)
-  indices-from n [] h = refl
-  indices-from n (k ∷ ks) h = by (nat_le n (index_of k)) refl (indices-from n ks (All-tail (λ k. is_array_index k ≡ true) k ks h))
-    where
-      here : is_array_index k ≡ true
-      here = All-head (λ k. is_array_index k ≡ true) k ks h
-
-      by : (b : Bool) → nat_le n (index_of k) ≡ b → indices_from n (map indexed ks) ≡ map indexed (filter (is_from n) ks) → indices_from n (map indexed (k ∷ ks)) ≡ map indexed (filter (is_from n) (k ∷ ks))
-      by true e r = rw (here, e) (ap (λ z. indexed k ∷ z) r)
-      by false e r = rw (here, e) r

@@ -59,7 +59,7 @@ after-digits [] n h = refl
 after-digits (c ∷ cs) n h =
     let p = and-true (is_digit c) (all_digits cs) h in
     let v : c - 48 ≡ digit_value c = omega (arith, digit_value_digit c (digit-range c p.0)) in
-    rw (p.0, v) (after-digits cs (n * 10 + digit_value c) p.1)
+    rw p.0 (ap (λ x. digits_after (n * 10 + x) cs) v ∙ after-digits cs (n * 10 + digit_value c) p.1)
 
 after-none : (cs : List ℕ) (n : ℕ) → all_digits cs ≡ false → digits_after n cs ≡ None
 after-none [] n h = absurd (true≢false h)

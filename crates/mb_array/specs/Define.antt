@@ -21,8 +21,8 @@ use Rattle.mb_world.specs.Formed.{full_values}
 use Rattle.mb_world.specs.Image.{Names, names_of, Resolve, key_in, desc_in}
 use Rattle.mb_array.specs.declared.Defined.{Defined}
 use Rattle.mb_array.specs.declared.Defined.TheVariants.{Answer, Range, Kind}
-use Rattle.mb_array.specs.Objects.{object_of}
-use Rattle.mb_array.specs.Definitions.{desc_values}
+use Rattle.mb_ordinary.specs.Objects.{object_of}
+use Rattle.mb_ordinary.specs.Definitions.{desc_values}
 
 -- ---- what is asked of an array
 

@@ -1,4 +1,2 @@
-pub mod Objects
-pub mod Definitions
 pub mod Define
 pub mod machine

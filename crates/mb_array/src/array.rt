@@ -4,7 +4,7 @@ ghost use Rattle.mb_world.specs.Data.{cell_at};
 ghost use Rattle.mb_world.specs.Image.{names_of};
 ghost use Rattle.mb_world.specs.Arrays.{array_length, array_defined, element_defined, length_defined, length_below, length_as, length_key, without_writable};
 ghost use Rattle.mb_world.specs.Ordinary.{validated};
-ghost use Rattle.mb_world.specs.Property.{denies, is_writable};
+ghost use Rattle.mb_desc.specs.Descriptors.{denies, is_writable};
 ghost use Rattle.mb_array.specs.Define.{HasItsLength, on_object, table_in};
 ghost use Rattle.mb_array.specs.machine.Cutting.{put_off};
 ghost use Rattle.mb_array.specs.machine.Done.{CanDefine, LengthIs, Ends};
@@ -54,7 +54,7 @@ fn define_element(
     ensures { Ends w.old o desc
         (on_object (λ t k x. element_defined t k x index (array_length t)) (names_of w.old) key desc (cell_at w.old o)) result w.new }
 {
-    if length.value <= index && !length.writable {
+    if length.refuses(index) {
         return Ok(Defined::Answer(false));
     }
     match plain::accepted(w, o, key, desc) {

@@ -2,9 +2,10 @@
 ghost use Rattle.std.specs.Prelude.{◌≡◌, ◌-◌, ◌<◌, ◌^◌, All, IfOk, reverse};
 ghost use Rattle.std.specs.Map.{keys_of};
 ghost use Rattle.mb_props.specs.KeyOrder.{index_of};
+ghost use Rattle.mb_props.specs.Table.{HasDistinctKeys};
 ghost use Rattle.mb_world.specs.Data.{cell_at, change_cell};
 ghost use Rattle.mb_world.specs.Ids.{ObjIn};
-ghost use Rattle.mb_world.specs.Property.{is_fixed, property_is};
+ghost use Rattle.mb_desc.specs.Descriptors.{is_fixed, property_is};
 ghost use Rattle.mb_array.specs.Define.{table_in, with_table};
 ghost use Rattle.mb_array.specs.machine.Cutting.{index_in, is_from, AreIndicesFrom, cut_of};
 
@@ -25,7 +26,8 @@ pub(crate) fn index_of(key: Key) -> Option<u32>
 
 /// The array indices not below `n` among the keys of a table, ascending.
 pub(crate) fn indices_from(props: &Props<Full<Value>>, n: u32) -> Result<Vec<Key>, NoMemory>
-    ensures { IfOk result (λ keys. AreIndicesFrom n (keys_of props.now) keys.items) }
+    ensures indices { IfOk result (λ keys. AreIndicesFrom n (keys_of props.now) keys.items) }
+    ensures distinct { HasDistinctKeys props.now }
 {
     let mut keys = props.keys_in_order()?;
     keys.retain(|key| is_from(*key, n));

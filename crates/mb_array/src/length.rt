@@ -1,11 +1,11 @@
 // An array's `length`.
-ghost use Rattle.std.specs.Prelude.{◌≡◌, true, false, pos};
+ghost use Rattle.std.specs.Prelude.{◌≡◌, ◌&&◌, not, nat_le, false, pos};
 ghost use Rattle.mb_base.specs.declared.value.Value.TheVariants.{Whole};
 ghost use Rattle.mb_desc.specs.declared.descriptor.Full.TheVariants.{Datum};
 ghost use Rattle.mb_world.specs.Data.{cell_at};
 ghost use Rattle.mb_world.specs.Ids.{ObjIn};
 ghost use Rattle.mb_array.specs.Define.{HasItsLength, table_in};
-ghost use Rattle.mb_array.specs.machine.Done.{LengthIs};
+ghost use Rattle.mb_array.specs.machine.Done.{LengthIs, length_parts};
 
 use mb_base::{Key, ObjId, Value};
 use mb_desc::Full;
@@ -22,12 +22,22 @@ pub(crate) struct Length {
     pub(crate) writable: bool,
 }
 
+impl Length {
+    /// Whether an element at that index would be past a `length` that can't be written.
+    pub(crate) fn refuses(self, index: u32) -> bool
+        ensures { result ≡ (nat_le self.value index && not self.writable) }
+    {
+        self.value <= index && !self.writable
+    }
+}
+
 /// The `length` that an array has.
 pub(crate) fn length_of(w: &World, o: ObjId) -> Length
     requires object { ObjIn w.now o }
     requires length { HasItsLength w.now.texts (table_in (cell_at w.now o)) }
     ensures { LengthIs w.now o result.key result.value result.writable }
 {
+    let cell = w.cell(o);
     let Some(text) = w.texts().find(&LENGTH) else {
         unreachable!()
     };
@@ -35,17 +45,25 @@ pub(crate) fn length_of(w: &World, o: ObjId) -> Length
         text,
         index: u32::MAX,
     };
-    match w.cell(o).props.get(key) {
+    let (value, writable) = parts(cell.props.get(key));
+    Length {
+        key,
+        value: value as u32,
+        writable,
+    }
+}
+
+// The value and the writable flag of a `length`.
+fn parts(property: Option<Full<Value>>) -> (i64, bool)
+    ensures { result ≡ length_parts property }
+{
+    match property {
         Some(Full::Datum {
             value: Value::Whole(value),
             writable,
             ..
-        }) => Length {
-            key,
-            value: value as u32,
-            writable,
-        },
-        _ => unreachable!(),
+        }) => (value, writable),
+        _ => (0, false),
     }
 }
 

@@ -7,8 +7,8 @@ ghost use Rattle.mb_world.specs.Data.{cell_at, change_cell, is_array};
 ghost use Rattle.mb_world.specs.Ids.{ObjIn, KeyIn};
 ghost use Rattle.mb_world.specs.Image.{names_of};
 ghost use Rattle.mb_world.specs.declared.cell.Cell.{Cell};
-ghost use Rattle.mb_array.specs.Objects.{object_of};
-ghost use Rattle.mb_array.specs.Definitions.{TellsApart, compared, DescIn};
+ghost use Rattle.mb_ordinary.specs.Objects.{object_of};
+ghost use Rattle.mb_ordinary.specs.Definitions.{TellsApart, compared, DescIn};
 ghost use Rattle.mb_array.specs.Define.{HasItsLength, meant, told, left, changes, table_in, with_table, known_values, HoldsKnown};
 
 mod array;
@@ -64,3 +64,6 @@ fn is_array(kind: &CellKind) -> bool
 {
     matches!(kind, CellKind::Array)
 }
+
+#[cfg(test)]
+mod tests;

@@ -5,9 +5,9 @@ ghost use Rattle.mb_world.specs.Data.{cell_at};
 ghost use Rattle.mb_world.specs.Ids.{ObjIn, KeyIn, FullIn, Maybe};
 ghost use Rattle.mb_world.specs.Image.{names_of};
 ghost use Rattle.mb_world.specs.Ordinary.{ordinary_defined};
-ghost use Rattle.mb_array.specs.Definitions.{DescIn, accepted};
+ghost use Rattle.mb_ordinary.specs.Definitions.{DescIn, accepted};
 ghost use Rattle.mb_array.specs.Define.{on_object};
-ghost use Rattle.mb_array.specs.machine.Done.{CanDefine, Ends};
+ghost use Rattle.mb_array.specs.machine.Done.{CanDefine, HasCell, Ends};
 
 use crate::Defined;
 use mb_base::{Key, NoMemory, ObjId, Value};
@@ -40,6 +40,7 @@ pub(crate) fn accepted(w: &World, o: ObjId, key: Key, desc: Desc<Value>) -> Opti
     requires kind { IsOfOneKind desc }
     ensures value { result ≡ accepted w.now o key desc }
     ensures within { Maybe (FullIn w.now) result }
+    ensures cell { HasCell w.now o }
 {
     let cell = w.cell(o);
     validate(cell.extensible, cell.props.get(key), desc)

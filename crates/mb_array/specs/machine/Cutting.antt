@@ -7,7 +7,7 @@ use Rattle.mb_desc.specs.declared.descriptor.Desc.{Desc}
 use Rattle.mb_desc.specs.declared.descriptor.Full.{Full}
 use Rattle.mb_props.specs.Table.{found, without}
 use Rattle.mb_props.specs.KeyOrder.{index_of, is_array_index, IsInKeyOrder}
-use Rattle.mb_world.specs.Property.{is_fixed, property_is, denies}
+use Rattle.mb_desc.specs.Descriptors.{is_fixed, property_is, denies}
 
 -- the array index of a key
 abbrev pub index_in : Key → Option ℕ

@@ -1,5 +1,5 @@
 -- What each of the calls within does, by the pure definition that it carries out.
-use Rattle.std.specs.Prelude.{◌≡◌, ◌<◌, ◌^◌, ℕ, List, Bool, false, Option, Some, None, All, option_map, pos, MatchResult}
+use Rattle.std.specs.Prelude.{◌≡◌, ◌<◌, ◌^◌, ℕ, ℤ, List, Bool, false, Option, Some, None, All, option_map, pos, MatchResult}
 use Rattle.std.specs.declared.result.Result.{Result}
 use Rattle.mb_base.specs.declared.NoMemory.{NoMemory}
 use Rattle.mb_base.specs.declared.value.Key.{Key}
@@ -7,16 +7,19 @@ use Rattle.mb_base.specs.declared.value.ObjId.{ObjId}
 use Rattle.mb_base.specs.declared.value.Value.{Value}
 use Rattle.mb_base.specs.declared.value.Value.TheVariants as v
 use Rattle.mb_desc.specs.declared.descriptor.Desc.{Desc}
+use Rattle.mb_desc.specs.declared.descriptor.Full.{Full}
 use Rattle.mb_desc.specs.declared.descriptor.Full.TheVariants.{Datum}
 use Rattle.mb_desc.specs.Descriptors.{IsOfOneKind}
 use Rattle.mb_world.specs.Ordinary.{Defined as Outcome}
 use Rattle.mb_world.specs.Data.{Data, cell_at, property_at, change_cell, length_key, length_units}
 use Rattle.mb_world.specs.Key.{Named}
-use Rattle.mb_world.specs.Ids.{ObjIn, KeyIn}
+use Rattle.mb_text.specs.Texts.{AreDistinct}
+use Rattle.mb_world.specs.declared.cell.Cell.{Cell}
+use Rattle.mb_world.specs.Ids.{ObjIn, KeyIn, CellIn}
 use Rattle.mb_world.specs.Image.{names_of, key_in}
 use Rattle.mb_array.specs.declared.Defined.{Defined}
-use Rattle.mb_array.specs.Objects.{object_of}
-use Rattle.mb_array.specs.Definitions.{DescIn, TellsApart, compared}
+use Rattle.mb_ordinary.specs.Objects.{object_of}
+use Rattle.mb_ordinary.specs.Definitions.{DescIn, TellsApart, compared}
 use Rattle.mb_array.specs.Define.{told, left, changes, table_in, with_table, known_values, HoldsKnown}
 
 -- the conditions of a definition
@@ -27,13 +30,26 @@ pub record CanDefine (d : Data) (o : ObjId) (key : Key) (desc : Desc Value) : Ty
   pub one_kind : IsOfOneKind desc
   pub apart : TellsApart d (compared d o key desc)
 
+-- the cell that an id names
+pub record HasCell (d : Data) (o : ObjId) : Type 0 where
+  pub cell : Cell
+  pub there : cell_at d o ≡ Some cell
+  pub within : CellIn d cell
+  pub distinct : AreDistinct d.texts
+
 -- the array's `length`, as it was read
 pub record LengthIs (d : Data) (o : ObjId) (key : Key) (n : ℕ) (writable : Bool) : Type 0 where
+  pub cell : HasCell d o
   pub key_is : key ≡ length_key d.texts
   pub named : key_in (names_of d) key ≡ Named length_units
   pub key_there : KeyIn d key
   pub there : property_at d o key ≡ Some (Datum (v.Whole (pos n)) writable false false)
   pub limit : n < 2 ^ 32
+
+-- the value and the writable flag of a `length`
+abbrev pub length_parts : Option (Full Value) → ℤ × Bool
+length_parts (Some (Datum (v.Whole z) writable e c)) = (z, writable)
+length_parts property = (pos 0, false)
 
 -- the cell is what the outcome says, all else is as before, and each object in it was there or was given
 pub record Done (d : Data) (o : ObjId) (desc : Desc Value) (x : Outcome) (d' : Data) : Type 0 where
