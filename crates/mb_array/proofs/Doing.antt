@@ -1,6 +1,6 @@
 -- What the calls within do, from what they read and write.
 use Rattle.std.proofs.Common.{◌≡◌, ℕ, ℤ, pos, suc, ◌+◌, ◌-◌, ◌^◌, ◌≢◌, ◌<◌, ◌≤◌, max, reverse, List, [], ◌∷◌, Bool, true, false, not, ◌&&◌, ◌||◌, is_some, nat_le, nat_eq, Option, Some, None, option_map, if◌then◌else◌, refl, sym, ap, ◌∙◌, arith, true≢false, subst, slice_get}
-use Rattle.std.specs.Prelude.{All}
+use Rattle.std.specs.Prelude.{All, Ok, Err}
 use Rattle.std.proofs.lemmas.Bool.{le-leb, lt-leb}
 use Rattle.std.proofs.lemmas.List.Elements.{All-cons, All-weaker}
 use Rattle.std.proofs.lemmas.List.Sorted.{All-permutation, IsPermutation-reverse}
@@ -29,7 +29,7 @@ use Rattle.mb_world.specs.Arrays.{array_length, length_in, length_key, with_leng
 use Rattle.mb_world.specs.Formed.{full_values}
 use Rattle.mb_world.specs.Data.{Data, Stand, Counted, AtPlace, Before, Hidden, cell_at, property_in, property_at, change_cell, put_in, length_units, length_id}
 use Rattle.mb_world.specs.Ids.{KeyIn, PropertyIn, FullIn, Maybe}
-use Rattle.mb_world.specs.Image.{names_of, stood, Resolve, key_in, full_in, desc_in, property_in as property_of_image}
+use Rattle.mb_world.specs.Image.{Names, names_of, stood, Resolve, key_in, full_in, desc_in, property_in as property_of_image}
 use Rattle.mb_world.proofs.Worlds.{All-insert}
 use Rattle.mb_ordinary.specs.Objects.{object_of}
 use Rattle.mb_ordinary.specs.Definitions.{DescIn, TellsApart, compared, desc_values, property_values, accepted, accepted_by}
@@ -39,9 +39,9 @@ use Rattle.mb_array.specs.declared.Defined.{Defined}
 use Rattle.mb_array.specs.declared.Defined.TheVariants.{Answer, Range, Kind}
 use Rattle.mb_array.specs.Define.{on_object, told, left, changes, table_in, with_table, known_values, IsKnown, HoldsKnown}
 use Rattle.mb_array.specs.machine.Cutting.{index_in, is_from, AreIndicesFrom, Cut, cut_of, put_off}
-use Rattle.mb_array.specs.machine.Done.{CanDefine, HasCell, LengthIs, Done}
+use Rattle.mb_array.specs.machine.Done.{CanDefine, HasCell, LengthIs, Done, asked_length, length_or_range}
 use Rattle.mb_array.proofs.Changes.{cell-changed, change-none, change-same, table-there, table-changed, only-table, change-again}
-use Rattle.mb_array.proofs.Spelled.{key-index}
+use Rattle.mb_ordinary.proofs.Spelled.{key-index}
 use Rattle.mb_array.proofs.Shrinking.{shrunk_of, cut-is, all-from, no-name, found-cut, cut-whole, All-cut}
 use Rattle.mb_array.proofs.Known.{table-known, stored-known}
 
@@ -58,6 +58,61 @@ swap-same a b = by (same_key a b) refl (same_key b a) refl
     by false e false f = e ∙ sym f
     by true e false f = let is : a ≡ b = own-equal a b e in absurd (true≢false (sym (own-same b) ∙ ap (same_key b) (sym is) ∙ f))
     by false e true f = let is : b ≡ a = own-equal b a f in absurd (true≢false (sym (own-same a) ∙ ap (same_key a) (sym is) ∙ e))
+
+-- a key that is there stays there
+found-insert : (ps : List (Key × Full Value)) (key q : Key) (p f : Full Value) → found ps q ≡ Some f → found (insert_entry ps key p) q ≢ None
+found-insert [] key q p f e none = cc
+found-insert (x ∷ ps) key q p f e none = by (same_key key x.0) (same_key q x.0) refl refl (found-insert ps key q p f)
+  where
+    by : (a b : Bool) → same_key key x.0 ≡ a → same_key q x.0 ≡ b → (found ps q ≡ Some f → found (insert_entry ps key p) q ≢ None) → ⊥
+    by true true s t r = let z : Some p ≡ None = rw (s, t) at none in cc
+    by true false s t r =
+        let z : found ps q ≡ None = rw (s, t) at none in
+        let y : found ps q ≡ Some f = rw t at e in
+        let bad : None ≡ Some f = sym z ∙ y in cc
+    by false true s t r = let z : Some x.1 ≡ None = rw (s, t) at none in cc
+    by false false s t r =
+        let z : found (insert_entry ps key p) q ≡ None = rw (s, t) at none in
+        let y : found ps q ≡ Some f = rw t at e in
+        r y z
+
+pub off-desc : (d : Data) (desc : Desc Value) → DescIn d desc → DescIn d (put_off desc)
+off-desc d desc h = by (denies desc.writable)
+  where
+    by : (b : Bool) → DescIn d (if b then (let x : Desc Value = record desc { writable = None } in x) else desc)
+    by true = record { value_in = h.value_in; get_in = h.get_in; set_in = h.set_in }
+    by false = h
+
+no-whole : (n : Names) (a : ObjId) → whole_of (Resolve n (v.Object a)) ≡ None
+no-whole n a = by (slice_get n.stands a.0)
+  where
+    by : (s : Option Stand) → whole_of (stood n a.0 s) ≡ None
+    by None = refl
+    by (Some Counted) = refl
+    by (Some (AtPlace place)) = refl
+    by (Some (Before behind)) = refl
+    by (Some Hidden) = refl
+
+asked-ok : (n : Names) (y : Value) (m : ℕ) → asked_length y ≡ Ok m → (t : Thing) (x : Desc Val) → length_given t x (whole_of (Resolve n y)) ≡ length_below t x m (array_length t)
+asked-ok n (v.Whole z) m e t x = by (as_length z) e
+  where
+    by : (r : Option ℕ) → length_or_range r ≡ Ok m → length_within t x r ≡ length_below t x m (array_length t)
+    by (Some k) e = let f : k ≡ m = cc in ap (λ j. length_below t x j (array_length t)) f
+    by None e = cc
+asked-ok n _ m e t x = cc
+
+asked-err : (n : Names) (y : Value) (answer : Defined) → asked_length y ≡ Err answer → (t : Thing) (x : Desc Val) → (kind : ErrorKind) × (length_given t x (whole_of (Resolve n y)) ≡ Faulty kind) × (answer ≡ told (Faulty kind))
+asked-err n (v.Whole z) answer e t x = by (as_length z) e
+  where
+    by : (r : Option ℕ) → length_or_range r ≡ Err answer → (kind : ErrorKind) × (length_within t x r ≡ Faulty kind) × (answer ≡ told (Faulty kind))
+    by (Some k) e = cc
+    by None e = let f : answer ≡ Range = cc in (RangeError, refl, f)
+asked-err n (v.Object a) answer e t x = let f : answer ≡ Kind = cc in (TypeError, ap (length_given t x) (no-whole n a), f)
+asked-err n v.Undefined answer e t x = let f : answer ≡ Kind = cc in (TypeError, refl, f)
+asked-err n v.Null answer e t x = let f : answer ≡ Kind = cc in (TypeError, refl, f)
+asked-err n (v.Bool b) answer e t x = let f : answer ≡ Kind = cc in (TypeError, refl, f)
+asked-err n (v.Text b) answer e t x = let f : answer ≡ Kind = cc in (TypeError, refl, f)
+asked-err n (v.Symbol b) answer e t x = let f : answer ≡ Kind = cc in (TypeError, refl, f)
 
 off-kind : (a b c : Bool) → (a || b) && c ≡ false → (a || false) && c ≡ false
 off-kind true b c h = h
@@ -85,15 +140,17 @@ module _ (d : Data) (o : ObjId) (h : HasCell d o) where
   -- the cell has another table
   pub changed : (desc : Desc Value) (x : Outcome) (t : Thing) (a : Bool) (f : Cell → Cell) (d' : Data) → x ≡ Becomes t a → d' ≡ change_cell d o f → f h.cell ≡ with_table (f h.cell).props h.cell → object_of (names_of d) (f h.cell) ≡ t → All (HoldsKnown (known_values h.cell.props desc)) (f h.cell).props → (Answer a ≡ told x) × Done d o desc x d'
   changed desc x t a f d' e new only is known =
-      let after : cell_at d' o ≡ Some (f h.cell) = ap (λ z. cell_at z o) new ∙ cell-changed d o h.cell h.there f in
-      (ap told (sym e), record {
-        cell = ap (option_map (object_of (names_of d))) after ∙ ap Some is
-            ∙ sym (ap (λ z. option_map (left x) (option_map (object_of (names_of d)) z)) h.there ∙ ap (λ y. Some (left y the_object)) e);
-        rest = new ∙ only-table d o h.cell h.there f only ∙ ap (λ z. change_cell d o (with_table (table_in (cell_at z o)))) (sym new);
-        unchanged = λ c. absurd (true≢false (sym (ap changes e) ∙ c));
-        objects = subst (λ ps. All (HoldsKnown (known_values ps desc)) (table_in (cell_at d' o))) (sym (table-there d o h.cell h.there))
-            (subst (All (HoldsKnown (known_values h.cell.props desc))) (sym (ap table_in after)) known);
-      })
+      let after : cell_at d' o ≡ Some (f h.cell) = ap (λ z. cell_at z o) new ∙ cell-changed d o h.cell h.there f in (
+        ap told (sym e),
+        record {
+          cell = ap (option_map (object_of (names_of d))) after ∙ ap Some is
+              ∙ sym (ap (λ z. option_map (left x) (option_map (object_of (names_of d)) z)) h.there ∙ ap (λ y. Some (left y the_object)) e);
+          rest = new ∙ only-table d o h.cell h.there f only ∙ ap (λ z. change_cell d o (with_table (table_in (cell_at z o)))) (sym new);
+          unchanged = λ c. absurd (true≢false (sym (ap changes e) ∙ c));
+          objects = subst (λ ps. All (HoldsKnown (known_values ps desc)) (table_in (cell_at d' o))) (sym (table-there d o h.cell h.there))
+              (subst (All (HoldsKnown (known_values h.cell.props desc))) (sym (ap table_in after)) known);
+        },
+      )
 
   -- ---- a property is stored
 
@@ -135,6 +192,11 @@ module _ (d : Data) (o : ObjId) (h : HasCell d o) where
     array-length =
         ap (λ k. length_in (find_property k the_object.properties)) (sym len.named)
         ∙ ap length_in (find-found d h.distinct h.cell.props lk h.within.props_in len.key_there ∙ ap (option_map (full_in (names_of d))) length-there)
+
+    pub length-kept : (key : Key) (p : Full Value) (d1 : Data) → d1 ≡ change_cell d o (put_in key p) → property_at d1 o lk ≢ None
+    length-kept key p d1 first none =
+        found-insert h.cell.props key lk p (Datum (v.Whole (pos n)) w false false) length-there
+        (sym (ap (λ z. property_at z o lk) first ∙ ap (property_in lk) (cell-changed d o h.cell h.there (put_in key p))) ∙ none)
 
     -- with another `length`
     pub length-put : (ps : List (Key × Full Value)) (m : ℕ) (b : Bool) → All (PropertyIn d) ps → object_of (names_of d) (with_table (insert_entry ps lk (Datum (v.Whole (pos m)) b false false)) h.cell) ≡ with_length m b (object_of (names_of d) (with_table ps h.cell))
@@ -221,26 +283,26 @@ module _ (d : Data) (o : ObjId) (h : HasCell d o) where
           let back : All (λ k. is_from m k ≡ true) (reverse from) = All-permutation (λ k. is_from m k ≡ true) from (reverse from) (IsPermutation-reverse from) (all-from m (keys_of h.cell.props) from indices) in
           let whole : (cut_of (reverse from) m h.cell.props).whole ≡ nat_eq (cut_of (reverse from) m h.cell.props).length m = cut-whole (reverse from) m h.cell.props back in
           let done = changed desc (on_object shorter (names_of d) lk desc (cell_at d o)) (cut_to (shrunk_of (names_of d) x) b the_object) x.whole (λ c. put (with_table x.left c)) d2
-              (shorter-is (Some p) some
-              ∙ ap (λ z. Becomes (cut_to z (is_writable (full_in (names_of d) p) && not (denies desc.writable)) the_object) z.whole) (cut-is d h.distinct m the_object h.cell.props from refl h.within.props_in distinct indices)
-              ∙ ap (λ z. Becomes (cut_to (shrunk_of (names_of d) x) (z && not (denies desc.writable)) the_object) x.whole) (writable-in p))
-              (second ∙ ap (λ z. change_cell z o put) first ∙ change-again d o h.cell h.there (with_table x.left) put)
-              refl
-              (length-put x.left x.length b (All-cut (PropertyIn d) (reverse from) m h.cell.props h.within.props_in))
-              (put-known known x.left lk (Datum (v.Whole (pos x.length)) b false false) (All-cut (HoldsKnown known) (reverse from) m h.cell.props (table-known h.cell.props desc)) (number-known known x.length b)) in
+          (shorter-is (Some p) some
+          ∙ ap (λ z. Becomes (cut_to z (is_writable (full_in (names_of d) p) && not (denies desc.writable)) the_object) z.whole) (cut-is d h.distinct m the_object h.cell.props from refl h.within.props_in distinct indices)
+          ∙ ap (λ z. Becomes (cut_to (shrunk_of (names_of d) x) (z && not (denies desc.writable)) the_object) x.whole) (writable-in p))
+          (second ∙ ap (λ z. change_cell z o put) first ∙ change-again d o h.cell h.there (with_table x.left) put)
+          refl
+          (length-put x.left x.length b (All-cut (PropertyIn d) (reverse from) m h.cell.props h.within.props_in))
+          (put-known known x.left lk (Datum (v.Whole (pos x.length)) b false false) (All-cut (HoldsKnown known) (reverse from) m h.cell.props (table-known h.cell.props desc)) (number-known known x.length b)) in
           (ap Answer (sym whole) ∙ done.0, done.1)
 
       -- the `length` that is put last is there already
       pub length-stays : (from : List Key) (d1 : Data) → All (λ k. index_of k < 2 ^ 32 - 1) from → d1 ≡ change_cell d o (with_table (cut_of (reverse from) m h.cell.props).left) → property_at d1 o lk ≢ None
       length-stays from d1 low first none =
           let names : All (λ k. same_key lk k ≡ false) (reverse from) =
-              All-permutation (λ k. same_key lk k ≡ false) from (reverse from) (IsPermutation-reverse from)
-              (All-weaker (λ k. index_of k < 2 ^ 32 - 1) (λ k. same_key lk k ≡ false) (λ k l. ap (λ z. same_key z k) len.key_is ∙ no-name (length_id d.texts) k l) from low) in
+          All-permutation (λ k. same_key lk k ≡ false) from (reverse from) (IsPermutation-reverse from)
+          (All-weaker (λ k. index_of k < 2 ^ 32 - 1) (λ k. same_key lk k ≡ false) (λ k l. ap (λ z. same_key z k) len.key_is ∙ no-name (length_id d.texts) k l) from low) in
           let is : property_at d1 o lk ≡ Some (Datum (v.Whole (pos n)) w false false) =
-              ap (λ z. property_at z o lk) first
-              ∙ ap (property_in lk) (cell-changed d o h.cell h.there (with_table (cut_of (reverse from) m h.cell.props).left))
-              ∙ found-cut (reverse from) m h.cell.props lk names
-              ∙ length-there in
+          ap (λ z. property_at z o lk) first
+          ∙ ap (property_in lk) (cell-changed d o h.cell h.there (with_table (cut_of (reverse from) m h.cell.props).left))
+          ∙ found-cut (reverse from) m h.cell.props lk names
+          ∙ length-there in
           let bad : None ≡ Some (Datum (v.Whole (pos n)) w false false) = sym none ∙ is in
           cc
 
@@ -273,42 +335,23 @@ module _ (d : Data) (o : ObjId) (h : HasCell d o) where
       pub given-none : desc.value ≡ None → on_object ordinary_defined (names_of d) lk desc (cell_at d o) ≡ on_object given (names_of d) lk desc (cell_at d o)
       given-none e = as-any ∙ sym (given-is None e)
 
-      pub given-whole : desc.value ≡ Some (v.Whole (pos m)) → m ≤ 4294967295 → on_object below (names_of d) lk desc (cell_at d o) ≡ on_object given (names_of d) lk desc (cell_at d o)
-      given-whole e l =
-          let f : nat_le m 4294967295 ≡ true = le-leb m 4294967295 l in
-          on-cell below lk desc ∙ sym (given-is (Some (v.Whole (pos m))) e ∙ rw f refl)
+      pub given-length : (y : Value) → desc.value ≡ Some y → asked_length y ≡ Ok m → on_object below (names_of d) lk desc (cell_at d o) ≡ on_object given (names_of d) lk desc (cell_at d o)
+      given-length y e ok =
+          on-cell below lk desc
+          ∙ sym (given-is (Some y) e ∙ asked-ok (names_of d) y m ok the_object (desc_in (Resolve (names_of d)) desc))
 
     module _ (desc : Desc Value) where
-      faulty : (f : Thing → PropertyKey → Desc Val → Outcome) (kind : ErrorKind) (answer : Defined) → answer ≡ told (Faulty kind) → on_object f (names_of d) lk desc (cell_at d o) ≡ Faulty kind → (answer ≡ told (on_object f (names_of d) lk desc (cell_at d o))) × Done d o desc (on_object f (names_of d) lk desc (cell_at d o)) d
-      faulty f kind answer a e = (a ∙ ap told (sym e), nothing desc _ (ap changes e))
-
       abbrev asked : Thing → PropertyKey → Desc Val → Outcome
       asked t k x = length_defined t x x.value
 
       asked-is : (y : Value) → desc.value ≡ Some y → on_object asked (names_of d) lk desc (cell_at d o) ≡ length_given the_object (desc_in (Resolve (names_of d)) desc) (whole_of (Resolve (names_of d) y))
       asked-is y e = on-cell asked lk desc ∙ ap (λ z. length_defined the_object (desc_in (Resolve (names_of d)) desc) (option_map (Resolve (names_of d)) z)) e
 
-      pub given-past : (z : ℤ) → desc.value ≡ Some (v.Whole z) → as_length z ≡ None → (Range ≡ told (on_object asked (names_of d) lk desc (cell_at d o))) × Done d o desc (on_object asked (names_of d) lk desc (cell_at d o)) d
-      given-past z e h = faulty asked RangeError Range refl (asked-is (v.Whole z) e ∙ ap (length_within the_object (desc_in (Resolve (names_of d)) desc)) h)
-
-      no-whole : (y : Value) → ((z : ℤ) → y ≡ v.Whole z → ⊥) → whole_of (Resolve (names_of d) y) ≡ None
-      no-whole v.Undefined h = refl
-      no-whole v.Null h = refl
-      no-whole (v.Bool b) h = refl
-      no-whole (v.Whole z) h = absurd (h z refl)
-      no-whole (v.Text t) h = refl
-      no-whole (v.Symbol t) h = refl
-      no-whole (v.Object a) h = by (slice_get (names_of d).stands a.0)
-        where
-          by : (s : Option Stand) → whole_of (stood (names_of d) a.0 s) ≡ None
-          by None = refl
-          by (Some Counted) = refl
-          by (Some (AtPlace place)) = refl
-          by (Some (Before behind)) = refl
-          by (Some Hidden) = refl
-
-      pub given-kind : (y : Value) → desc.value ≡ Some y → ((z : ℤ) → y ≡ v.Whole z → ⊥) → (Kind ≡ told (on_object asked (names_of d) lk desc (cell_at d o))) × Done d o desc (on_object asked (names_of d) lk desc (cell_at d o)) d
-      given-kind y e h = faulty asked TypeError Kind refl (asked-is y e ∙ ap (length_given the_object (desc_in (Resolve (names_of d)) desc)) (no-whole y h))
+      pub given-refused : (y : Value) (answer : Defined) → desc.value ≡ Some y → asked_length y ≡ Err answer → (answer ≡ told (on_object asked (names_of d) lk desc (cell_at d o))) × Done d o desc (on_object asked (names_of d) lk desc (cell_at d o)) d
+      given-refused y answer e err =
+          let r = asked-err (names_of d) y answer err the_object (desc_in (Resolve (names_of d)) desc) in
+          let is : on_object asked (names_of d) lk desc (cell_at d o) ≡ Faulty r.0 = asked-is y e ∙ r.1 in
+          (r.2 ∙ ap told (sym is), nothing desc _ (ap changes is))
 
   -- ---- the cases of a key
 
@@ -330,5 +373,5 @@ module _ (d : Data) (o : ObjId) (h : HasCell d o) where
     pub key-other : (key : Key) (desc : Desc Value) → KeyIn d key → index_in key ≡ None → same_key key lk ≡ false → on_object ordinary_defined (names_of d) key desc (cell_at d o) ≡ on_object array_defined (names_of d) key desc (cell_at d o)
     key-other key desc k e other =
         let apart : graph_same_key (key_in (names_of d) key) length_key ≡ false =
-            ap (graph_same_key (key_in (names_of d) key)) (sym len.named) ∙ same-key d h.distinct key lk k len.key_there ∙ swap-same lk key ∙ other in
+        ap (graph_same_key (key_in (names_of d) key)) (sym len.named) ∙ same-key d h.distinct key lk k len.key_there ∙ swap-same lk key ∙ other in
         on-cell ordinary_defined key desc ∙ sym (no-index key desc k e ∙ rw apart refl)

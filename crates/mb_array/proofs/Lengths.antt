@@ -1,22 +1,28 @@
 -- The key of an array's `length`.
-use Rattle.std.proofs.Common.{◌≡◌, ℕ, ◌<◌, ◌-◌, ◌^◌, List, [], ◌∷◌, length, slice_get, Option, Some, None, Bool, true, false, if◌then◌else◌, refl, sym, ap, ◌∙◌, arith}
+use Rattle.std.proofs.Common.{◌≡◌, ℕ, ◌<◌, ◌-◌, ◌^◌, List, [], ◌∷◌, length, slice_get, Option, Some, None, Bool, true, false, if◌then◌else◌, nat_le, pos, subst, refl, sym, ap, ◌∙◌, arith}
 use Rattle.std.specs.Prelude.{All}
 use Rattle.std.proofs.lemmas.List.Elements.{All-head, All-tail}
+use Rattle.std.proofs.lemmas.Bool.{le-leb}
 use Rattle.std.proofs.lemmas.Option.{slice_get_within, get_or_from_slice_get}
 use Rattle.mb_base.specs.declared.value.Key.{Key}
 use Rattle.mb_base.specs.declared.value.Key.TheVariants.{Text}
+use Rattle.mb_base.specs.declared.value.ObjId.{ObjId}
 use Rattle.mb_base.specs.declared.value.StrId.{StrId}
 use Rattle.mb_base.specs.declared.value.Value.{Value}
+use Rattle.mb_base.specs.declared.value.Value.TheVariants as v
 use Rattle.mb_desc.specs.declared.descriptor.Full.{Full}
+use Rattle.mb_desc.specs.declared.descriptor.Full.TheVariants.{Datum}
 use Rattle.mb_text.specs.Index.{index_of}
 use Rattle.mb_text.specs.Texts.{AreDistinct, has_text, text_at}
 use Rattle.mb_props.specs.Table.{same_key, found}
 use Rattle.mb_world.specs.Key.{Named}
-use Rattle.mb_world.specs.Data.{Data, length_units, length_id, length_key}
+use Rattle.mb_world.specs.Data.{Data, property_in, length_units, length_id, length_key}
 use Rattle.mb_world.specs.Ids.{TextIn, KeyIn, PropertyIn}
 use Rattle.mb_world.specs.Image.{names_of, key_in}
 use Rattle.mb_world.proofs.Arrays.{place-found, place-new, length-no-index}
 use Rattle.mb_ordinary.proofs.SameKeys.{own-equal}
+use Rattle.mb_array.specs.Define.{HasItsLength}
+use Rattle.mb_array.specs.machine.Done.{HasCell, LengthIs, length_parts}
 
 -- a key that a table has is one of the world
 found-key : (d : Data) (ps : List (Key × Full Value)) (key : Key) (p : Full Value) → All (PropertyIn d) ps → found ps key ≡ Some p → KeyIn d key
@@ -40,3 +46,14 @@ named d id e = ap Named (get_or_from_slice_get d.texts id.0 length_units [] e)
 
 pub key-there : (d : Data) (id : StrId) → slice_get d.texts id.0 ≡ Some length_units → KeyIn d (Text id (2 ^ 32 - 1))
 key-there d id e = (slice_get_within d.texts id.0 length_units e, sym length-no-index ∙ ap index_of (sym (get_or_from_slice_get d.texts id.0 length_units [] e)))
+
+pub length-is : (d : Data) (o : ObjId) (h : HasCell d o) (l : HasItsLength d.texts h.cell.props) (id : StrId) → slice_get d.texts id.0 ≡ Some length_units → (r : ℕ × Bool) → r ≡ length_parts (found h.cell.props (Text id (2 ^ 32 - 1))) → LengthIs d o (Text id (2 ^ 32 - 1)) r.0 r.1
+length-is d o h l id e r q =
+    let key : Key = Text id (2 ^ 32 - 1) in
+    let k : key ≡ length_key d.texts = key-is d.texts id h.distinct e in
+    let at : found h.cell.props key ≡ Some (Datum (v.Whole (pos l.length)) l.writable false false) = ap (found h.cell.props) k ∙ l.there in
+    let small : nat_le l.length 4294967295 ≡ true = le-leb l.length 4294967295 (omega (arith, l.limit)) in
+    let parts : length_parts (Some (Datum (v.Whole (pos l.length)) l.writable false false)) ≡ (l.length, l.writable) = rw small refl in
+    let is : r ≡ (l.length, l.writable) = q ∙ ap length_parts at ∙ parts in
+    subst (λ (p : ℕ × Bool). LengthIs d o key p.0 p.1) (sym is)
+    (record { cell = h; key_is = k; named = named d id e; key_there = key-there d id e; there = ap (property_in key) h.there ∙ at; limit = l.limit })

@@ -1,6 +1,4 @@
 mod Changes
-mod Spelled
-mod Sorting
 mod Shrinking
 mod Known
 mod Doing

@@ -32,7 +32,7 @@ use Rattle.mb_world.specs.Image.{Names, names_of, full_in, key_in, property_in}
 use Rattle.mb_world.proofs.Worlds.{All-without}
 use Rattle.mb_array.specs.machine.Cutting.{is_from, AreIndicesFrom, Cut, cut_of}
 use Rattle.mb_ordinary.proofs.SameKeys.{find-found, remove-without, own-equal}
-use Rattle.mb_array.proofs.Sorting.{low-index, in_order, in-order, are-indices, All-in_order, indexed, indices-are}
+use Rattle.mb_ordinary.proofs.Sorting.{low-index, in_order, in-order, are-indices, All-in_order, indexed, indices-are}
 
 and-second : (a b : Bool) → a && b ≡ true → b ≡ true
 and-second true b h = h
@@ -108,11 +108,11 @@ module _ (d : Data) (distinct : AreDistinct d.texts) where
       let ks : List Key = keys_of ps in
       let in_ks : All (KeyIn d) ks = keys-in d ps g in
       let is : indices_from n (indices (property_keys t.properties)) ≡ map (indexed d distinct) from =
-          ap (λ r. indices_from n (indices (property_keys r))) e
-          ∙ ap (λ r. indices_from n (indices r)) (keys-map (names_of d) ps)
-          ∙ ap (indices_from n) (indices-are d distinct ks in_ks)
-          ∙ indices-from d distinct n (in_order ks) (are-indices ks)
-          ∙ ap (map (indexed d distinct)) (sym (from-is d distinct n ks from in_ks u h)) in
+      ap (λ r. indices_from n (indices (property_keys r))) e
+      ∙ ap (λ r. indices_from n (indices r)) (keys-map (names_of d) ps)
+      ∙ ap (indices_from n) (indices-are d distinct ks in_ks)
+      ∙ indices-from d distinct n (in_order ks) (are-indices ks)
+      ∙ ap (map (indexed d distinct)) (sym (from-is d distinct n ks from in_ks u h)) in
       ap (λ r. shrink (reverse r) n t.properties) is
       ∙ ap (λ r. shrink r n t.properties) (reverse-map (indexed d distinct) from)
       ∙ ap (shrink (map (indexed d distinct) (reverse from)) n) e

@@ -1,5 +1,5 @@
 // A definition on an array (ECMA-262, 10.4.2.1).
-ghost use Rattle.std.specs.Prelude.{◌≡◌, ◌<◌, ◌-◌, ◌^◌};
+ghost use Rattle.std.specs.Prelude.{◌≡◌, ◌<◌, ◌-◌, ◌^◌, ◌&&◌, not};
 ghost use Rattle.mb_world.specs.Data.{cell_at};
 ghost use Rattle.mb_world.specs.Image.{names_of};
 ghost use Rattle.mb_world.specs.Arrays.{array_length, array_defined, element_defined, length_defined, length_below, length_as, length_key, without_writable};
@@ -9,16 +9,12 @@ ghost use Rattle.mb_array.specs.Define.{HasItsLength, on_object, table_in};
 ghost use Rattle.mb_array.specs.machine.Cutting.{put_off};
 ghost use Rattle.mb_array.specs.machine.Done.{CanDefine, LengthIs, Ends};
 
-use crate::Defined;
 use crate::cutting::{cut, index_of, indices_from};
-use crate::length::{Length, length_of, length_property};
-use crate::plain;
+use crate::length::{Length, asked_length, length_of, length_property};
+use crate::{Defined, plain};
 use mb_base::{Key, NoMemory, ObjId, Value};
 use mb_desc::{Desc, Full};
 use mb_world::World;
-
-// The greatest length of an array.
-const MOST: i64 = 0xFFFF_FFFF;
 
 /// A definition on an array that has its `length`.
 pub(crate) fn define(
@@ -80,11 +76,12 @@ fn define_length(
     ensures { Ends w.old o desc
         (on_object (λ t k x. length_defined t x x.value) (names_of w.old) length.key desc (cell_at w.old o)) result w.new }
 {
-    match desc.value {
-        None => plain::define(w, o, length.key, desc),
-        Some(Value::Whole(n)) if (0..=MOST).contains(&n) => set_length(w, o, desc, n as u32, length),
-        Some(Value::Whole(_)) => Ok(Defined::Range),
-        Some(_) => Ok(Defined::Kind),
+    let Some(value) = desc.value else {
+        return plain::define(w, o, length.key, desc);
+    };
+    match asked_length(value) {
+        Ok(n) => set_length(w, o, desc, n, length),
+        Err(refusal) => Ok(refusal),
     }
 }
 
@@ -122,14 +119,14 @@ fn shorten(
     requires length { LengthIs w.old o length.key length.value length.writable }
     ensures { Ends w.old o desc
         (on_object (λ t k x. length_as t n (denies x.writable) (validated t length_key (without_writable x)))
-            (names_of w.old) length.key desc (cell_at w.old o)) result w.new }
+        (names_of w.old) length.key desc (cell_at w.old o)) result w.new }
 {
     match plain::accepted(w, o, length.key, put_off(desc)) {
         None => Ok(Defined::Answer(false)),
         Some(full) => {
             let keys = indices_from(&w.cell(o).props, n)?;
             let least = cut(w, o, n, keys);
-            let writable = is_writable(full) && desc.writable != Some(false);
+            let writable = is_writable_last(full, desc.writable);
             w.put(o, length.key, length_property(least, writable))?;
             Ok(Defined::Answer(least == n))
         }
@@ -148,6 +145,13 @@ fn put_off(desc: Desc<Value>) -> Desc<Value>
     } else {
         desc
     }
+}
+
+// Whether `length` can be written in the end: writable false is applied last.
+fn is_writable_last(full: Full<Value>, asked: Option<bool>) -> bool
+    ensures { result ≡ (is_writable full && not (denies asked)) }
+{
+    is_writable(full) && asked != Some(false)
 }
 
 fn is_writable(full: Full<Value>) -> bool

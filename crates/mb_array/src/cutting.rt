@@ -75,7 +75,8 @@ fn is_fixed(property: Option<Full<Value>>) -> bool
     ensures { result ≡ property_is is_fixed property }
 {
     match property {
-        Some(Full::Datum { configurable, .. } | Full::Accessor { configurable, .. }) => !configurable,
+        Some(Full::Datum { configurable, .. } | Full::Accessor { configurable, .. }) =>
+            !configurable,
         None => false,
     }
 }

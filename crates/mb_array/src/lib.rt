@@ -31,12 +31,7 @@ pub enum Defined {
 
 /// [[DefineOwnProperty]] (ECMA-262, 10.1.6 and 10.4.2.1) of a cell. A shorter `length` of an array takes its elements
 /// out from the highest down; that takes time by the properties that are there, whatever the lengths are.
-pub fn define_any(
-    w: &mut World,
-    o: ObjId,
-    key: Key,
-    desc: Desc<Value>,
-) -> Result<Defined, NoMemory>
+pub fn define_any(w: &mut World, o: ObjId, key: Key, desc: Desc<Value>) -> Result<Defined, NoMemory>
     requires object { ObjIn w.old o }
     requires key { KeyIn w.old key }
     requires desc { DescIn w.old desc }

@@ -11,7 +11,7 @@ ghost use Rattle.mb_ordinary.specs.Definitions.{TellsApart, compared, property_v
 ghost use Rattle.mb_array.specs.Define.{HasItsLength, table_in};
 
 use crate::{Defined, define_any, is_array};
-use mb_base::{Key, ObjId, Side, Value};
+use mb_base::{Key, ObjId, Side, StrId, Value};
 use mb_desc::{Desc, Full};
 use mb_world::{CellKind, World};
 use std::process::Abort;
@@ -36,16 +36,11 @@ fn there(rt: &impl Abort, w: &World, o: ObjId)
     assert!(rt; o.0 < w.cells());
 }
 
-fn key_there(rt: &impl Abort, w: &World, key: Key)
-    ensures { KeyIn w.now key }
+fn key(rt: &impl Abort, w: &World, text: StrId) -> Key
+    ensures { KeyIn w.now result }
 {
-    match key {
-        Key::Text { text, .. } => {
-            assert!(rt; (text.0 as usize) < w.texts().len());
-            assert!(rt; w.texts().key(text) == key);
-        }
-        Key::Symbol(symbol) => assert!(rt; symbol.0 < w.symbols()),
-    }
+    assert!(rt; (text.0 as usize) < w.texts().len());
+    w.texts().key(text)
 }
 
 fn is_plain(x: Option<Value>) -> bool
@@ -94,12 +89,14 @@ fn has_length(rt: &impl Abort, w: &World, o: ObjId)
         index: u32::MAX,
     };
     match w.cell(o).props.get(key) {
-        Some(Full::Datum {
-            value: Value::Whole(n),
-            enumerable: false,
-            configurable: false,
-            ..
-        }) => assert!(rt; (0..=0xFFFF_FFFF).contains(&n)),
+        Some(
+            Full::Datum {
+                value: Value::Whole(n),
+                enumerable: false,
+                configurable: false,
+                ..
+            },
+        ) => assert!(rt; (0..=0xFFFF_FFFF).contains(&n)),
         _ => panic!(rt; "no length"),
     }
 }
@@ -117,11 +114,11 @@ fn defines(
     rt: &HostRuntime,
     w: &mut World,
     o: ObjId,
-    key: Key,
+    text: StrId,
     desc: Desc<Value>,
 ) -> Result<Defined, Fail> {
     there(rt, w, o);
-    key_there(rt, w, key);
+    let key = key(rt, w, text);
     plain(rt, w, desc);
     apart(rt, w, o, key, desc);
     length_of_an_array(rt, w, o);
@@ -129,18 +126,6 @@ fn defines(
 }
 
 // ---- worlds
-
-fn index(rt: &HostRuntime, w: &mut World, n: i64) -> Result<Key, Fail> {
-    let text = w.of_whole(n)?;
-    assert!(rt; (text.0 as usize) < w.texts().len());
-    Ok(w.texts().key(text))
-}
-
-fn length(rt: &HostRuntime, w: &mut World) -> Result<Key, Fail> {
-    let text = w.intern(&LENGTH)?;
-    assert!(rt; (text.0 as usize) < w.texts().len());
-    Ok(w.texts().key(text))
-}
 
 fn value(n: i64) -> Desc<Value> {
     Desc {
@@ -171,15 +156,17 @@ fn fixed(n: i64) -> Desc<Value> {
 fn array(rt: &HostRuntime, w: &mut World) -> Result<ObjId, Fail> {
     let o = w.make(Side::LEFT, CellKind::Array, Value::Null, None)?;
     for (n, configurable) in [(0, true), (1, false), (2, true)] {
-        let key = index(rt, w, n)?;
-        assert_eq!(rt; defines(rt, w, o, key, open(n + 1, configurable))?, Defined::Answer(true));
+        let element = w.of_whole(n)?;
+        let answer = defines(rt, w, o, element, open(n + 1, configurable))?;
+        assert_eq!(rt; answer, Defined::Answer(true));
     }
     Ok(o)
 }
 
 // Whether the key is there.
 fn has(rt: &HostRuntime, w: &mut World, o: ObjId, n: i64) -> Result<bool, Fail> {
-    let key = index(rt, w, n)?;
+    let text = w.of_whole(n)?;
+    let key = key(rt, w, text);
     there(rt, w, o);
     Ok(w.cell(o).props.get(key).is_some())
 }
@@ -191,7 +178,8 @@ fn has_length_of(
     n: i64,
     writable: bool,
 ) -> Result<(), Fail> {
-    let key = length(rt, w)?;
+    let text = w.intern(&LENGTH)?;
+    let key = key(rt, w, text);
     there(rt, w, o);
     let property = Full::Datum {
         value: Value::Whole(n),
@@ -213,8 +201,9 @@ struct Row {
 }
 
 fn row(rt: &HostRuntime, w: &mut World, o: ObjId, row: &Row) -> Result<(), Fail> {
-    let key = length(rt, w)?;
-    assert_eq!(rt; defines(rt, w, o, key, row.desc)?, row.answer);
+    let length = w.intern(&LENGTH)?;
+    let answer = defines(rt, w, o, length, row.desc)?;
+    assert_eq!(rt; answer, row.answer);
     has_length_of(rt, w, o, row.length, row.writable)?;
     for (n, element) in [0, 1, 2].into_iter().zip(row.elements) {
         assert_eq!(rt; has(rt, w, o, n)?, element);
@@ -232,13 +221,55 @@ fn a_length_goes_down_to_what_is_fixed(rt: HostRuntime) -> Result<(), Fail> {
     };
     let all = [true, true, true];
     let rows = [
-        Row { desc: value(-1), answer: Defined::Range, length: 3, writable: true, elements: all },
-        Row { desc: value(0x1_0000_0000), answer: Defined::Range, length: 3, writable: true, elements: all },
-        Row { desc: truth, answer: Defined::Kind, length: 3, writable: true, elements: all },
-        Row { desc: value(0xFFFF_FFFF), answer: Defined::Answer(true), length: 0xFFFF_FFFF, writable: true, elements: all },
-        Row { desc: fixed(0), answer: Defined::Answer(false), length: 2, writable: false, elements: [true, true, false] },
-        Row { desc: value(0), answer: Defined::Answer(false), length: 2, writable: false, elements: [true, true, false] },
-        Row { desc: fixed(2), answer: Defined::Answer(true), length: 2, writable: false, elements: [true, true, false] },
+        Row {
+            desc: value(-1),
+            answer: Defined::Range,
+            length: 3,
+            writable: true,
+            elements: all,
+        },
+        Row {
+            desc: value(0x1_0000_0000),
+            answer: Defined::Range,
+            length: 3,
+            writable: true,
+            elements: all,
+        },
+        Row {
+            desc: truth,
+            answer: Defined::Kind,
+            length: 3,
+            writable: true,
+            elements: all,
+        },
+        Row {
+            desc: value(0xFFFF_FFFF),
+            answer: Defined::Answer(true),
+            length: 0xFFFF_FFFF,
+            writable: true,
+            elements: all,
+        },
+        Row {
+            desc: fixed(0),
+            answer: Defined::Answer(false),
+            length: 2,
+            writable: false,
+            elements: [true, true, false],
+        },
+        Row {
+            desc: value(0),
+            answer: Defined::Answer(false),
+            length: 2,
+            writable: false,
+            elements: [true, true, false],
+        },
+        Row {
+            desc: fixed(2),
+            answer: Defined::Answer(true),
+            length: 2,
+            writable: false,
+            elements: [true, true, false],
+        },
     ];
     for each in &rows {
         row(&rt, &mut w, o, each)?;
@@ -250,22 +281,24 @@ fn a_length_goes_down_to_what_is_fixed(rt: HostRuntime) -> Result<(), Fail> {
 fn an_element_is_below_the_length(rt: HostRuntime) -> Result<(), Fail> {
     let mut w = World::new(rt.alloc())?;
     let o = array(&rt, &mut w)?;
-    let key = length(&rt, &mut w)?;
     // the greatest index, and a number that is none
-    let rows = [(0xFFFF_FFFE, 0xFFFF_FFFF), (0xFFFF_FFFF, 0xFFFF_FFFF)];
-    for (n, length) in rows {
-        let element = index(&rt, &mut w, n)?;
-        assert_eq!(&rt; defines(&rt, &mut w, o, element, open(7, true))?, Defined::Answer(true));
-        has_length_of(&rt, &mut w, o, length, true)?;
+    for n in [0xFFFF_FFFE, 0xFFFF_FFFF] {
+        let element = w.of_whole(n)?;
+        let answer = defines(&rt, &mut w, o, element, open(7, true))?;
+        assert_eq!(&rt; answer, Defined::Answer(true));
+        has_length_of(&rt, &mut w, o, 0xFFFF_FFFF, true)?;
     }
     // the elements go, and what is no index stays
-    assert_eq!(&rt; defines(&rt, &mut w, o, key, fixed(2))?, Defined::Answer(true));
-    assert_eq!(&rt; has(&rt, &mut w, o, 0xFFFF_FFFE)?, false);
-    assert_eq!(&rt; has(&rt, &mut w, o, 0xFFFF_FFFF)?, true);
+    let length = w.intern(&LENGTH)?;
+    let answer = defines(&rt, &mut w, o, length, fixed(2))?;
+    assert_eq!(&rt; answer, Defined::Answer(true));
+    assert!(&rt; !has(&rt, &mut w, o, 0xFFFF_FFFE)?);
+    assert!(&rt; has(&rt, &mut w, o, 0xFFFF_FFFF)?);
     // at the `length`, below it, far above it
-    for (n, answer) in [(2, false), (1, true), (9, false)] {
-        let element = index(&rt, &mut w, n)?;
-        assert_eq!(&rt; defines(&rt, &mut w, o, element, value(5))?, Defined::Answer(answer));
+    for (n, accepted) in [(2, false), (1, true), (9, false)] {
+        let element = w.of_whole(n)?;
+        let answer = defines(&rt, &mut w, o, element, value(5))?;
+        assert_eq!(&rt; answer, Defined::Answer(accepted));
         has_length_of(&rt, &mut w, o, 2, false)?;
     }
     Ok(())
@@ -275,7 +308,8 @@ fn an_element_is_below_the_length(rt: HostRuntime) -> Result<(), Fail> {
 fn another_object_has_no_such_length(rt: HostRuntime) -> Result<(), Fail> {
     let mut w = World::new(rt.alloc())?;
     let o = w.make(Side::LEFT, CellKind::Plain, Value::Null, None)?;
-    let key = length(&rt, &mut w)?;
-    assert_eq!(&rt; defines(&rt, &mut w, o, key, open(-1, true))?, Defined::Answer(true));
+    let length = w.intern(&LENGTH)?;
+    let answer = defines(&rt, &mut w, o, length, open(-1, true))?;
+    assert_eq!(&rt; answer, Defined::Answer(true));
     Ok(())
 }

@@ -1,5 +1,5 @@
 -- What each of the calls within does, by the pure definition that it carries out.
-use Rattle.std.specs.Prelude.{◌≡◌, ◌<◌, ◌^◌, ℕ, ℤ, List, Bool, false, Option, Some, None, All, option_map, pos, MatchResult}
+use Rattle.std.specs.Prelude.{◌≡◌, ◌<◌, ◌^◌, ℕ, List, Bool, false, Option, Some, None, All, option_map, unwrap_or, pos, MatchResult, Ok, Err}
 use Rattle.std.specs.declared.result.Result.{Result}
 use Rattle.mb_base.specs.declared.NoMemory.{NoMemory}
 use Rattle.mb_base.specs.declared.value.Key.{Key}
@@ -12,12 +12,14 @@ use Rattle.mb_desc.specs.declared.descriptor.Full.TheVariants.{Datum}
 use Rattle.mb_desc.specs.Descriptors.{IsOfOneKind}
 use Rattle.mb_world.specs.Ordinary.{Defined as Outcome}
 use Rattle.mb_world.specs.Data.{Data, cell_at, property_at, change_cell, length_key, length_units}
+use Rattle.mb_world.specs.Arrays.{as_length}
 use Rattle.mb_world.specs.Key.{Named}
 use Rattle.mb_text.specs.Texts.{AreDistinct}
 use Rattle.mb_world.specs.declared.cell.Cell.{Cell}
 use Rattle.mb_world.specs.Ids.{ObjIn, KeyIn, CellIn}
 use Rattle.mb_world.specs.Image.{names_of, key_in}
 use Rattle.mb_array.specs.declared.Defined.{Defined}
+use Rattle.mb_array.specs.declared.Defined.TheVariants.{Range, Kind}
 use Rattle.mb_ordinary.specs.Objects.{object_of}
 use Rattle.mb_ordinary.specs.Definitions.{DescIn, TellsApart, compared}
 use Rattle.mb_array.specs.Define.{told, left, changes, table_in, with_table, known_values, HoldsKnown}
@@ -46,10 +48,19 @@ pub record LengthIs (d : Data) (o : ObjId) (key : Key) (n : ℕ) (writable : Boo
   pub there : property_at d o key ≡ Some (Datum (v.Whole (pos n)) writable false false)
   pub limit : n < 2 ^ 32
 
+-- the length that a value asks for, or the answer that refuses it
+abbrev pub length_or_range : Option ℕ → Result ℕ Defined
+length_or_range (Some n) = Ok n
+length_or_range None = Err Range
+
+abbrev pub asked_length : Value → Result ℕ Defined
+asked_length (v.Whole z) = length_or_range (as_length z)
+asked_length value = Err Kind
+
 -- the value and the writable flag of a `length`
-abbrev pub length_parts : Option (Full Value) → ℤ × Bool
-length_parts (Some (Datum (v.Whole z) writable e c)) = (z, writable)
-length_parts property = (pos 0, false)
+abbrev pub length_parts : Option (Full Value) → ℕ × Bool
+length_parts (Some (Datum (v.Whole z) writable e c)) = (unwrap_or (as_length z) 0, writable)
+length_parts property = (0, false)
 
 -- the cell is what the outcome says, all else is as before, and each object in it was there or was given
 pub record Done (d : Data) (o : ObjId) (desc : Desc Value) (x : Outcome) (d' : Data) : Type 0 where
