@@ -172,6 +172,8 @@ class Clause:
             arguments = self.with_proofs(FOUND[HOME[head]][head], arguments)
         elif head not in WORDS:
             raise SystemExit("no lemma for %s" % text)
+        if head == "ends":
+            arguments = arguments + ["tt"]
         if head in TASKS:
             arguments = arguments + [self.fit(arguments[0])]
         if head == "make":

@@ -30,7 +30,7 @@ Sees = View PropertyKey Val
 
 -- ---- tests and verdicts
 
-and-second : (a b : Bool) → a && b ≡ true → b ≡ true
+pub and-second : (a b : Bool) → a && b ≡ true → b ≡ true
 and-second true b h = h
 and-second false b h = absurd (let bad : false ≡ true = h in cc)
 
@@ -38,11 +38,11 @@ and-first : (a b : Bool) → a && b ≡ true → a ≡ true
 and-first true b h = refl
 and-first false b h = absurd (let bad : false ≡ true = h in cc)
 
-not-not : (a : Bool) → not a ≡ false → a ≡ true
+pub not-not : (a : Bool) → not a ≡ false → a ≡ true
 not-not true h = refl
 not-not false h = absurd (let bad : true ≡ false = h in cc)
 
-unbroken : (b : Bool) (n : ℕ) (rs : List (Bool × ℕ)) → is_pass (first_broken ((b, n) ∷ rs)) ≡ true
+pub unbroken : (b : Bool) (n : ℕ) (rs : List (Bool × ℕ)) → is_pass (first_broken ((b, n) ∷ rs)) ≡ true
     → (b ≡ false) × (is_pass (first_broken rs) ≡ true)
 unbroken true n rs h = absurd (let bad : false ≡ true = h in cc)
 unbroken false n rs h = (refl, h)
@@ -55,17 +55,17 @@ prototype-tells n p view h closed =
     let i : is_pass (same_prototype same_value n p (Some view.prototype)) ≡ true = rw closed at h in
     value-sound p view.prototype (not-not (same_value p view.prototype) (unbroken (not (same_value p view.prototype)) n [] i).0)
 
-extensible-tells : (b x : Bool) → is_pass (rule.is_extensible b x) ≡ true → b ≡ x
+pub extensible-tells : (b x : Bool) → is_pass (rule.is_extensible b x) ≡ true → b ≡ x
 extensible-tells true true h = refl
 extensible-tells false false h = refl
 extensible-tells true false h = absurd (let bad : false ≡ true = h in cc)
 extensible-tells false true h = absurd (let bad : false ≡ true = h in cc)
 
-prevent-tells : (x : Bool) → is_pass (rule.prevent_extensions x) ≡ true → x ≡ false
+pub prevent-tells : (x : Bool) → is_pass (rule.prevent_extensions x) ≡ true → x ≡ false
 prevent-tells true h = absurd (let bad : false ≡ true = h in cc)
 prevent-tells false h = refl
 
-absent-tells : (n m : ℕ) (real : Option (Full Val)) (extensible : Bool) → is_pass (absent n m real extensible) ≡ true
+pub absent-tells : (n m : ℕ) (real : Option (Full Val)) (extensible : Bool) → is_pass (absent n m real extensible) ≡ true
     → (p : Full Val) → real ≡ Some p → (is_configurable p ≡ true) × (extensible ≡ true)
 absent-tells n m None extensible h p e = absurd (let bad : None ≡ Some p = e in cc)
 absent-tells n m (Some r) extensible h p e =
@@ -85,7 +85,7 @@ present-real said (Some p) c two three = (p, refl, fixed (is_configurable p) ref
     fixed true e = absurd (let bad : true ≡ false = rw (c, e) at two in cc)
     fixed false e = e
 
-present-tells : (said : Full Val) (real : Option (Full Val)) (extensible : Bool)
+pub present-tells : (said : Full Val) (real : Option (Full Val)) (extensible : Bool)
     → is_pass (rule.own_present said real extensible) ≡ true → AllowsSaid same_value Undefined extensible real said
 present-tells said real extensible h =
     let first = compatible same_value Undefined extensible (descriptor_of said) real in
@@ -96,7 +96,7 @@ present-tells said real extensible h =
     let three = unbroken third 11 [] two.1 in
     (not-not first one.0, λ c. present-real said real c two.0 three.0)
 
-define-tells : (given : Desc Val) (real : Option (Full Val)) (extensible : Bool)
+pub define-tells : (given : Desc Val) (real : Option (Full Val)) (extensible : Bool)
     → is_pass (rule.define given real extensible) ≡ true → AllowsDefined same_value Undefined extensible real given
 define-tells given None extensible h =
     let one = unbroken (not extensible) 12 ((denies given.configurable, 13) ∷ []) h in
@@ -195,7 +195,7 @@ same-truth true b f g = sym (f refl)
 same-truth false true f g = g refl
 same-truth false false f g = refl
 
-keys-tell : (view : Sees) (ks : List PropertyKey) → own_keys_pass view ks ≡ true
+pub keys-tell : (view : Sees) (ks : List PropertyKey) → own_keys_pass view ks ≡ true
     → Passes same_key same_value Undefined (deed.OwnPropertyKeys ks) view
 keys-tell view ks h =
     (λ k f.

@@ -10,6 +10,10 @@ pub mod Turns
 pub mod Seen
 pub mod Ends
 pub mod There
+pub mod Said
 pub mod Answered
 pub mod Checked
 pub mod Needed
+pub mod Reading
+pub mod Tails
+pub mod Proxies

@@ -3,7 +3,7 @@ use Rattle.std.proofs.Common.{◌≡◌, ℕ, Some, refl, sym, ◌∙◌, subst}
 use Rattle.mb_desc.specs.Descriptors.{IsOfOneKind}
 use Rattle.mb_world.specs.Value.{Val, Undefined, Null, Truth, Whole, Text, Symbol, Object, BuiltIn}
 use Rattle.mb_world.specs.Graph.{Graph, Thing, Kind}
-use Rattle.mb_world.specs.Objects.{thing_at, with_thing}
+use Rattle.mb_world.specs.Objects.{thing_at, with_thing, is_proxy_kind}
 use Rattle.mb_model.specs.Engine.{state_of}
 use Rattle.mb_model.specs.Task.{Task}
 use Rattle.mb_model.specs.Fitting.{Fits}
@@ -12,6 +12,7 @@ use Rattle.mb_model.specs.Operations.Calls.{target_is_array}
 use Rattle.mb_model.specs.Meaning.{Means}
 use Rattle.mb_model.proofs.Kept.Changes.{Change, Definition, PlainDefinition, Storing, Deletion, NewPrototype, Closing, Recast}
 use Rattle.mb_model.proofs.Kept.Words.{Kept}
+use Rattle.mb_model.proofs.Kept.Rows.{IsPlain}
 use Rattle.mb_model.proofs.Kept.Given.{keeps-given, means-goes}
 use Rattle.mb_growth.specs.Objects.{is_array, IsFormed}
 use Rattle.mb_growth.specs.Later.{Moves, AreFormed, EachEvolves}
@@ -23,12 +24,13 @@ use Rattle.mb_growth.proofs.Sides.{each-side-sees}
 use Rattle.mb_growth.proofs.Made.{new-formed, same-array}
 
 -- another kind, which is an array's as little or as much
-recast-moves : (t : Thing) (k : Kind) → IsFormed t → target_is_array t.kind ≡ target_is_array k → Moves t (record t { kind = k })
-recast-moves t k formed same =
+recast-moves : (t : Thing) (k : Kind) → IsFormed t → target_is_array t.kind ≡ target_is_array k
+    → is_proxy_kind t.kind ≡ is_proxy_kind k → Moves t (record t { kind = k })
+recast-moves t k formed same proxy =
     let array : is_array t.kind ≡ is_array k = same-array t.kind ∙ same ∙ sym (same-array k) in
     let stays = later-refl t in
     (record { distinct = formed.distinct; array = λ a. formed.array (array ∙ a) },
-    record { owner = refl; label = refl; array = array; evolves = stays.evolves })
+    record { owner = refl; label = refl; array = array; proxy = proxy; evolves = stays.evolves })
 
 -- each change that a row makes of an object
 change-moves : (g : Graph) (t u : Thing) → IsFormed t → Change (Unit {0}) g t u → Moves t u
@@ -38,7 +40,7 @@ change-moves g t u formed (Storing n v b array e) = elements-move t u n v b form
 change-moves g t u formed (Deletion v k free e) = deletions-move g v t u k formed free e
 change-moves g t u formed (NewPrototype p extensible e) = subst (Moves t) e (prototypes-move t p formed (extensible tt))
 change-moves g t u formed (Closing e) = subst (Moves t) e (closing-moves t formed)
-change-moves g t u formed (Recast k same e) = subst (Moves t) e (recast-moves t k formed same)
+change-moves g t u formed (Recast k same proxy e) = subst (Moves t) e (recast-moves t k formed same proxy)
 
 -- the graph is formed, and each object of an earlier one is there in a later form
 abbrev pub Grows : Graph → Graph → Type 0
@@ -62,6 +64,9 @@ abbrev pub growing : Kept
 growing = record {
   cares = Unit {0};
   to = Grows;
+  owed = λ b o g. Unit {0};
+  ended = λ b g o abrupt h. tt;
+  known = λ t s o g. Unit {0};
   stays = λ f g p. (p.0, stays-later g);
   goes_on = grows-on;
   made = λ f g t new p. grows-on f g (with_object t g) p (one-is-made g t p.0 (new-formed t new));
@@ -72,9 +77,12 @@ growing = record {
   job = λ f g s v p. p;
 }
 
+pub plainly : IsPlain growing
+plainly = record { owes = λ b g o h. tt; knows = λ t s g o. tt }
+
 pub tasks-evolve : TasksEvolve
 tasks-evolve task graph fuel fit formed =
-    means-goes growing task graph fuel (λ c. fit) (formed, stays-later graph)
+    means-goes growing plainly task graph fuel (λ c. fit) (formed, stays-later graph)
 
 pub sides-see-tasks-evolve : SidesSeeTasksEvolve
 sides-see-tasks-evolve task graph fuel fit formed v n t at =

@@ -14,7 +14,7 @@ use Rattle.mb_view.proofs.Sorted.{sorted-refl, sorted-trans, sorted-changes}
 use Rattle.mb_world.specs.Value.{Val, Undefined, same_value}
 use Rattle.mb_world.specs.Key.{PropertyKey, same_key}
 use Rattle.mb_world.specs.Graph.{Graph, Thing, RuleKind}
-use Rattle.mb_world.specs.Objects.{own_property, with_property, without_property}
+use Rattle.mb_world.specs.Objects.{is_proxy_kind, own_property, with_property, without_property}
 use Rattle.mb_world.specs.Ordinary.{Refused, Becomes, validated, defined_as, ordinary_defined, closed, with_prototype, Leaves, Without, deleted}
 use Rattle.mb_world.specs.Arrays.{length_key}
 use Rattle.mb_world.specs.View.{shown_by, shown_property, key_rule, is_read_only, key_ruling, Remove as RemoveChange, Free, Decided, Admits}
@@ -25,13 +25,14 @@ use Rattle.mb_growth.proofs.Values.{key-sound, key-refl, value-sound}
 use Rattle.mb_growth.proofs.Bridge.{own-is, with-is, without-is}
 
 pub later-refl : (t : Thing) → IsLater t t
-later-refl t = record { owner = refl; label = refl; array = refl; evolves = sorted-refl same_key sort_of (as_view t) }
+later-refl t = record { owner = refl; label = refl; array = refl; proxy = refl; evolves = sorted-refl same_key sort_of (as_view t) }
 
 pub later-trans : (t u v : Thing) → IsLater t u → IsLater u v → IsLater t v
 later-trans t u v h k = record {
   owner = h.owner ∙ k.owner;
   label = h.label ∙ k.label;
   array = h.array ∙ k.array;
+  proxy = h.proxy ∙ k.proxy;
   evolves = sorted-trans same_key sort_of (as_view t) (as_view u) (as_view v) h.evolves k.evolves;
 }
 
@@ -45,9 +46,9 @@ still-length v w (Datum x y e c) h u at =
 still-length v w (Accessor g s e c) h u at = absurd h
 
 pub one-change : (t u : Thing) (change : Change PropertyKey Val) → as_view u ≡ changed same_key change (as_view t)
-    → t.owner ≡ u.owner → t.label ≡ u.label → is_array t.kind ≡ is_array u.kind
+    → t.owner ≡ u.owner → t.label ≡ u.label → is_array t.kind ≡ is_array u.kind → is_proxy_kind t.kind ≡ is_proxy_kind u.kind
     → IsFormed t → IsAllowed same_key same_value Undefined change (as_view t) → Moves t u
-one-change t u change e owner label array formed allowed = (record { distinct = distinct; array = has }, record { owner = owner; label = label; array = array; evolves = grows })
+one-change t u change e owner label array proxy formed allowed = (record { distinct = distinct; array = has }, record { owner = owner; label = label; array = array; proxy = proxy; evolves = grows })
   where
     distinct : HasDistinctKeys same_key (as_view u)
     distinct = subst (HasDistinctKeys same_key) (sym e) (changed-distinct same_key (λ key. true) key-sound key-refl change (as_view t) formed.distinct)
@@ -65,19 +66,19 @@ one-change t u change e owner label array formed allowed = (record { distinct = 
 -- a definition that was accepted
 pub with-moves : (t : Thing) (k : PropertyKey) (d : Desc Val) (p : Full Val) → IsFormed t → IsOfOneKind d → validated t k d ≡ Some p → Moves t (with_property k p t)
 with-moves t k d p formed one h =
-    one-change t (with_property k p t) (Define k d p) (with-is k d p t) refl refl refl formed
+    one-change t (with_property k p t) (Define k d p) (with-is k d p t) refl refl refl refl formed
     (one, ap (λ (o : Option (Full Val)). Validate same_value Undefined t.extensible o d) (sym (own-is k t)) ∙ h)
 
 -- a property that is configurable is removed
 pub without-moves : (t : Thing) (k : PropertyKey) (p : Full Val) → IsFormed t → own_property k t ≡ Some p → is_configurable p ≡ true → Moves t (without_property k t)
 without-moves t k p formed at c =
-    one-change t (without_property k t) (Remove k) (without-is k t) refl refl refl formed (p, sym (own-is k t) ∙ at, c)
+    one-change t (without_property k t) (Remove k) (without-is k t) refl refl refl refl formed (p, sym (own-is k t) ∙ at, c)
 
 pub prototypes-move : PrototypesMove
-prototypes-move t p formed open_ = one-change t (with_prototype p t) (SetPrototype p) refl refl refl refl formed open_
+prototypes-move t p formed open_ = one-change t (with_prototype p t) (SetPrototype p) refl refl refl refl refl formed open_
 
 pub closing-moves : ClosingMoves
-closing-moves t formed = one-change t (closed t) PreventExtensions refl refl refl refl formed tt
+closing-moves t formed = one-change t (closed t) PreventExtensions refl refl refl refl refl formed tt
 
 pub ordinary-moves : (t u : Thing) (k : PropertyKey) (d : Desc Val) (b : Bool) → IsFormed t → IsOfOneKind d → ordinary_defined t k d ≡ Becomes u b → Moves t u
 ordinary-moves t u k d b formed one h = by (validated t k d) refl h

@@ -2,13 +2,14 @@
 use Rattle.std.specs.Prelude.{◌≡◌, ℕ, Bool, true, false, Some, slice_get}
 use Rattle.mb_desc.specs.View.{View}
 use Rattle.mb_view.specs.Passing.{Passes}
+use Rattle.mb_world.specs.declared.cell.Shape.{Shape}
 use Rattle.mb_world.specs.declared.entry.Op.{Op}
 use Rattle.mb_world.specs.declared.entry.Op.TheVariants.{Has, Get as GetOp, Set as SetOp}
 use Rattle.mb_world.specs.Value.{Val, Undefined, Object, same_value}
 use Rattle.mb_world.specs.Key.{PropertyKey, same_key}
-use Rattle.mb_world.specs.Graph.{Graph, Thing, Entry}
+use Rattle.mb_world.specs.Graph.{Graph, Thing, Proxy, Entry}
 use Rattle.mb_world.specs.Objects.{is_proxy_kind}
-use Rattle.mb_world.specs.View.{Shown}
+use Rattle.mb_world.specs.View.{Shown, owner_or}
 use Rattle.mb_model.specs.Engine.{Gives, Spent}
 use Rattle.mb_model.specs.Task.{Method, HasProperty, Get, Set, Perform, Outcome}
 use Rattle.mb_model.specs.Fitting.{FitsMethod}
@@ -17,7 +18,7 @@ use Rattle.mb_model.specs.Trace.Ops.{op_of}
 use Rattle.mb_model.specs.Trace.Entries.{key_of_method, given_of, said_outcome}
 use Rattle.mb_model.specs.Trace.Lawful.{deed_by, deed_of}
 use Rattle.mb_model.specs.Trace.Answers.{passes}
-use Rattle.mb_growth.specs.Later.{AreFormed}
+use Rattle.mb_growth.specs.Later.{AreFormed, EachEvolves}
 
 -- the entry of a method that ended so passes against a view
 abbrev pub EntryPasses : Method → Outcome → View PropertyKey Val → Type 0
@@ -46,6 +47,26 @@ abbrev pub OrdinaryEntriesPass : Type 0
 OrdinaryEntriesPass = (s v n : ℕ) (m : Method) (enters : Bool) (t : Thing) (graph : Graph) (fuel : ℕ)
     → slice_get graph.objects n ≡ Some t → is_proxy_kind t.kind ≡ false → FitsMethod m → AreFormed graph
     → EndPasses v n m t graph (Means (Perform s m (Object n) v enters) graph fuel)
+
+-- a moment between two graphs at which an answer passes, against what side p sees of the object then
+pub record PassesBetween (p n : ℕ) (m : Method) (before : Graph) (q : Outcome) (after : Graph) : Type 0 where
+  pub moment : Graph
+  pub begun : EachEvolves before moment
+  pub ended : EachEvolves moment after
+  pub rules : moment.rules ≡ before.rules
+  pub passes : (u : Thing) → slice_get moment.objects n ≡ Some u → EntryPasses m q (Shown moment p u)
+
+abbrev pub EndBetween : ℕ → ℕ → Method → Graph → Ends → Type 0
+EndBetween p n m before (Gives q after fuel) = PassesBetween p n m before q after
+EndBetween p n m before (Spent after fuel) = Unit {0}
+
+-- a method of a script-made Proxy passes against what the Proxy's owner sees of the target at some moment before it
+-- ends; no Proxy has a Proxy as its target
+abbrev pub ProxyEntriesPass : Type 0
+ProxyEntriesPass = (s v n k : ℕ) (m : Method) (enters : Bool) (t u : Thing) (handler : Val) (shape : Shape) (graph : Graph)
+    (fuel : ℕ) → slice_get graph.objects n ≡ Some t → t.kind ≡ Proxy (Object k) handler shape
+    → slice_get graph.objects k ≡ Some u → is_proxy_kind u.kind ≡ false → FitsMethod m → AreFormed graph
+    → EndBetween (owner_or s t.owner) k m graph (Means (Perform s m (Object n) v enters) graph fuel)
 
 -- ---- the checks of a Proxy's traps
 

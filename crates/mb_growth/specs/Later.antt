@@ -1,13 +1,15 @@
 -- A later form of an object, and of the graph.
 use Rattle.std.specs.Prelude.{◌≡◌, ℕ, Some, slice_get}
 use Rattle.mb_world.specs.Graph.{Graph, Thing}
+use Rattle.mb_world.specs.Objects.{is_proxy_kind}
 use Rattle.mb_growth.specs.Objects.{EvolvesTo, IsFormed, is_array}
 
--- the object keeps its owner and label, stays an array or none, and evolves
+-- the object keeps its owner and label, stays an array or none and a script-made Proxy or none, and evolves
 pub record IsLater (t u : Thing) : Type 0 where
   pub owner : t.owner ≡ u.owner
   pub label : t.label ≡ u.label
   pub array : is_array t.kind ≡ is_array u.kind
+  pub proxy : is_proxy_kind t.kind ≡ is_proxy_kind u.kind
   pub evolves : EvolvesTo t u
 
 -- it is formed afterwards, too

@@ -1,5 +1,5 @@
 // The laws of single changes, and of graphs.
-ghost use Rattle.mb_growth.specs.Answered.{OrdinaryEntriesPass, ChecksTell};
+ghost use Rattle.mb_growth.specs.Answered.{OrdinaryEntriesPass, ProxyEntriesPass, ChecksTell};
 ghost use Rattle.mb_growth.specs.Needs.{WalksMustFit, DefinitionsMustFit};
 ghost use Rattle.mb_growth.specs.Laws.{DefinitionsMove, ElementsMove, DeletionsMove, PrototypesMove, ClosingMoves, StaysLater, GoesOnLater, OneMoves, OneIsMade, SeesByRules, EachSideSees, TasksEvolve, SidesSeeTasksEvolve, FirstIsFormed, TurnsEvolve, LettersEvolve, RunsEvolve};
 
@@ -58,4 +58,10 @@ pub fn checks_tell()
 pub fn tasks_must_fit()
     ensures walks { WalksMustFit }
     ensures definitions { DefinitionsMustFit }
+{}
+
+/// What a method of a script-made Proxy answers passes the checks against what the Proxy's owner sees of the target at some
+/// moment from its begin to its end: as the checks read it, or, without a trap, at that of the target's method.
+pub fn proxy_entries_pass()
+    ensures { ProxyEntriesPass }
 {}

@@ -7,7 +7,7 @@ use Rattle.mb_world.specs.Value.{Val, Undefined, Null, Truth, Whole, Text, Symbo
 use Rattle.mb_world.specs.Key.{PropertyKey, same_key, index_of_key}
 use Rattle.mb_world.specs.Property.{open_property}
 use Rattle.mb_world.specs.Graph.{Graph, Thing, Kind, Array, Property}
-use Rattle.mb_world.specs.Objects.{thing_at, thing_is, with_thing, put_property, without_property}
+use Rattle.mb_world.specs.Objects.{thing_at, thing_is, is_proxy_kind, with_thing, put_property, without_property}
 use Rattle.mb_world.specs.Ordinary.{Defined, Refused, Becomes, Faulty, validated, defined_as, ordinary_defined, closed, with_prototype, Without, deleted}
 use Rattle.mb_world.specs.Ordinary as ordinary
 use Rattle.mb_world.specs.Arrays.{index_key, length_key, array_length, element_as, element_defined, length_as, without_writable, length_below, as_length, length_within, length_given, length_defined, name_defined, array_defined_at, defined_by_kind, defined, element_stored}
@@ -43,7 +43,8 @@ pub data Change (cares : Type 0) (g : Graph) (t u : Thing) : Type 0 where
       → deleted t k (shown_property g v t k) ≡ Without u → Change cares g t u
   NewPrototype : (p : Val) → (cares → t.extensible ≡ true) → with_prototype p t ≡ u → Change cares g t u
   Closing : closed t ≡ u → Change cares g t u
-  Recast : (k : Kind) → target_is_array t.kind ≡ target_is_array k → record t { kind = k } ≡ u → Change cares g t u
+  Recast : (k : Kind) → target_is_array t.kind ≡ target_is_array k → is_proxy_kind t.kind ≡ is_proxy_kind k
+      → record t { kind = k } ≡ u → Change cares g t u
 
 -- ---- an array stays one
 
@@ -129,7 +130,7 @@ array-stays cares g t u (Storing n v b a e) =
 array-stays cares g t u (Deletion v k free e) = ap target_is_array (without-kind t u k (shown_property g v t k) e)
 array-stays cares g t u (NewPrototype p open_ e) = ap (λ x. target_is_array x.kind) e
 array-stays cares g t u (Closing e) = ap (λ x. target_is_array x.kind) e
-array-stays cares g t u (Recast k same e) = same ∙ ap (λ x. target_is_array x.kind) e
+array-stays cares g t u (Recast k same proxy e) = same ∙ ap (λ x. target_is_array x.kind) e
 
 -- ---- the arrays of a graph
 

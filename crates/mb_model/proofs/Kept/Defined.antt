@@ -7,7 +7,7 @@ use Rattle.mb_desc.specs.Descriptors.{IsOfOneKind}
 use Rattle.mb_world.specs.Value.{Val}
 use Rattle.mb_world.specs.Key.{PropertyKey}
 use Rattle.mb_world.specs.Graph.{Graph, Thing, Kind, Plain, Array, Function, Standard, Fault, Proxy, Gone, Revoker, Collection}
-use Rattle.mb_world.specs.Objects.{thing_at, thing_is}
+use Rattle.mb_world.specs.Objects.{thing_at, thing_is, is_proxy_kind}
 use Rattle.mb_world.specs.Ordinary.{Defined, Refused, Becomes, Faulty, ordinary_defined}
 use Rattle.mb_world.specs.Arrays.{element_stored}
 use Rattle.mb_model.specs.Task.{Answer, Method, DefineOwnProperty, Nothing}
@@ -94,12 +94,23 @@ same-gone (Gone s) = refl
 same-gone (Revoker p) = refl
 same-gone (Collection c s) = refl
 
+same-proxy : (k : Kind) → is_proxy_kind k ≡ is_proxy_kind (gone_kind k)
+same-proxy Plain = refl
+same-proxy Array = refl
+same-proxy (Function c) = refl
+same-proxy (Standard p) = refl
+same-proxy (Fault e) = refl
+same-proxy (Proxy t h s) = refl
+same-proxy (Gone s) = refl
+same-proxy (Revoker p) = refl
+same-proxy (Collection c s) = refl
+
 pub keeps-revoke_proxy : (kept : Kept) (p : ℕ) → Goes kept (revoke_proxy p)
 keeps-revoke_proxy kept p =
     let f : Thing → Thing = λ t. record t { kind = gone_kind t.kind } in
     record {
       goes = λ g.
           at-then kept g (alter (Val.Object p) f) (λ _. undefined)
-          (at-alter kept g (Val.Object p) f (λ t at. Recast (gone_kind t.kind) (same-gone t.kind) refl))
+          (at-alter kept g (Val.Object p) f (λ t at. Recast (gone_kind t.kind) (same-gone t.kind) (same-proxy t.kind) refl))
           (λ _ g' q. (keeps-give kept (Answer.Value Val.Undefined)).goes g');
     }

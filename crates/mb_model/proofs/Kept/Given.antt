@@ -6,7 +6,7 @@ use Rattle.mb_model.specs.Task.{Task}
 use Rattle.mb_model.specs.Meaning.{Ends, Means, KeepsGiven}
 use Rattle.mb_model.specs.Fitting.{Fits}
 use Rattle.mb_model.proofs.Kept.Words.{Kept, beside-objects}
-use Rattle.mb_model.proofs.Kept.Rows.{EndHolds, means-holds}
+use Rattle.mb_model.proofs.Kept.Rows.{IsPlain, EndHolds, means-holds}
 
 -- no row changes what the run was given
 
@@ -14,6 +14,9 @@ abbrev given_by : Kept
 given_by = record {
   cares = ⊥;
   to = KeepsGiven;
+  owed = λ b o g. Unit {0};
+  ended = λ b g o abrupt h. tt;
+  known = λ t s o g. Unit {0};
   stays = λ f g k. (refl, refl, refl, refl);
   goes_on = λ f g h k l. (l.0 ∙ k.0, l.1 ∙ k.1, l.2 ∙ k.2, l.3 ∙ k.3);
   made = λ f g t new k. k;
@@ -29,8 +32,8 @@ at-end kept b (Gives o s f) h = h
 at-end kept b (Spent s f) h = h
 
 -- what a task that fits goes on along
-pub means-goes : (kept : Kept) (t : Task) (g : Graph) (f : ℕ) → (kept.cares → Fits t g) → kept.to g g → kept.to g (state_of (Means t g f))
-means-goes kept t g f fit h = at-end kept g (Means t g f) (means-holds kept t g f fit h)
+pub means-goes : (kept : Kept) → IsPlain kept → (t : Task) (g : Graph) (f : ℕ) → (kept.cares → Fits t g) → kept.to g g → kept.to g (state_of (Means t g f))
+means-goes kept plain t g f fit h = at-end kept g (Means t g f) (means-holds kept plain t g f fit h)
 
 pub keeps-given : (t : Task) (g : Graph) (f : ℕ) → KeepsGiven g (state_of (Means t g f))
-keeps-given t g f = means-goes given_by t g f (λ c. absurd c) (refl, refl, refl, refl)
+keeps-given t g f = means-goes given_by (record { owes = λ b h o k. tt; knows = λ u s h o. tt }) t g f (λ c. absurd c) (refl, refl, refl, refl)

@@ -52,8 +52,8 @@ keeps-node kept c n (ForForm first test last body) = keeps-for_row kept c n firs
 keeps-node kept c n (ReturnForm e) = keeps-return_row kept c e
 keeps-node kept c n (ThrowForm e) = keeps->>= kept (eval c e) (λ v. throw v) (keeps-eval kept c e) (λ v.
     keeps-throw kept v)
-keeps-node kept c n BreakForm = keeps-ends kept Break
-keeps-node kept c n ContinueForm = keeps-ends kept Continue
+keeps-node kept c n BreakForm = keeps-ends kept Break tt
+keeps-node kept c n ContinueForm = keeps-ends kept Continue tt
 keeps-node kept c n (TryForm block x h ending) = keeps->>= kept (outcome (task c block)) (λ o. tried c n x h ending
     o) (keeps-outcome kept (task c block) (λ _ _. tt)) (λ o. keeps-tried kept c n x h ending o)
 keeps-node kept c n (ParamForm x) = keeps-give kept Nothing

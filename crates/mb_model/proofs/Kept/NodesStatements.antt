@@ -43,8 +43,8 @@ keeps-expr_done kept v = keeps-give kept Nothing
 pub keeps-body_ended : (kept : Kept) (x0 : Does Answer) (px0 : Goes kept (x0)) (x1 : Outcome) → Goes kept
     (body_ended x0 x1)
 keeps-body_ended kept next keeps-next (Normal a) = keeps-next
-keeps-body_ended kept next keeps-next (Throw v) = keeps-ends kept (Throw v)
-keeps-body_ended kept next keeps-next (Return v) = keeps-ends kept (Return v)
+keeps-body_ended kept next keeps-next (Throw v) = keeps-ends kept (Throw v) tt
+keeps-body_ended kept next keeps-next (Return v) = keeps-ends kept (Return v) tt
 keeps-body_ended kept next keeps-next Break = keeps-give kept Nothing
 keeps-body_ended kept next keeps-next Continue = keeps-next
 
@@ -131,10 +131,10 @@ keeps-loop_row kept c n = keeps->>= kept (look (λ g. form_at g c.side n)) (λ f
 
 pub keeps-finally_ended : (kept : Kept) (x0 : Outcome) (x1 : Outcome) → Goes kept (finally_ended x0 x1)
 keeps-finally_ended kept o (Normal a) = keeps-pass kept o
-keeps-finally_ended kept o (Throw v) = keeps-ends kept (Throw v)
-keeps-finally_ended kept o (Return v) = keeps-ends kept (Return v)
-keeps-finally_ended kept o Break = keeps-ends kept Break
-keeps-finally_ended kept o Continue = keeps-ends kept Continue
+keeps-finally_ended kept o (Throw v) = keeps-ends kept (Throw v) tt
+keeps-finally_ended kept o (Return v) = keeps-ends kept (Return v) tt
+keeps-finally_ended kept o Break = keeps-ends kept Break tt
+keeps-finally_ended kept o Continue = keeps-ends kept Continue tt
 
 pub keeps-finally : (kept : Kept) (x0 : Context) (x1 : Option ℕ) (x2 : Outcome) → Goes kept (finally x0 x1 x2)
 keeps-finally kept c None o = keeps-pass kept o
@@ -165,6 +165,6 @@ keeps-tried kept c n x h ending Break = keeps-finally kept c ending Break
 keeps-tried kept c n x h ending Continue = keeps-finally kept c ending Continue
 
 pub keeps-return_row : (kept : Kept) (x0 : Context) (x1 : Option ℕ) → Goes kept (return_row x0 x1)
-keeps-return_row kept c None = keeps-ends kept (Return Undefined)
+keeps-return_row kept c None = keeps-ends kept (Return Undefined) tt
 keeps-return_row kept c (Some n) = keeps->>= kept (eval c n) (λ v. ends (Return v)) (keeps-eval kept c n) (λ v.
-    keeps-ends kept (Return v))
+    keeps-ends kept (Return v) tt)

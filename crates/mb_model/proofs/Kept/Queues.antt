@@ -39,6 +39,9 @@ abbrev pub queued : (k n : ℕ) → Kept
 queued k n = record {
   cares = ⊥;
   to = λ f g. Waiting k n g;
+  owed = λ b o g. Unit {0};
+  ended = λ b g o abrupt h. tt;
+  known = λ t s o g. Unit {0};
   stays = λ f g h. h;
   goes_on = λ f g h a b. b;
   made = λ f g t new h. h;

@@ -3,7 +3,7 @@ use Rattle.mb_world.specs.Graph.{Graph}
 use Rattle.mb_world.specs.Objects.{thing_at}
 use Rattle.mb_model.specs.Engine.{Gives, Spent, Ret, Pay, Turn, Do, Again, by, and_then, charged, exec, within, given, ending}
 use Rattle.mb_model.specs.Fitting.{Fits}
-use Rattle.mb_model.specs.Task.{Task, Evaluate, Loop, Chain, Walk, Perform, Enter, Run, Access, Visit, Answer, Outcome}
+use Rattle.mb_model.specs.Task.{Task, Evaluate, Loop, Chain, Walk, Perform, Enter, Run, Access, Visit, Answer, Outcome, Normal}
 use Rattle.mb_model.specs.Writing.{Row, Does}
 use Rattle.mb_model.specs.Nodes.Evaluation.{Context}
 use Rattle.mb_model.specs.Nodes.Functions.{enter_row}
@@ -27,107 +27,130 @@ use Rattle.mb_model.proofs.Kept.BuiltInsCollections.{keeps-visit_row}
 
 -- what goes on along the changes of rows goes on along the whole meaning
 
--- a whole row
-whole : (kept : Kept) (g : Graph) (m : Does Answer) → At kept g m → Along kept g g → Holds kept g (m finished g)
-whole kept g m p a = p finished g a (λ x g' q. q)
+-- nothing more is owed, and nothing known
+pub record IsPlain (kept : Kept) : Type 0 where
+  pub owes : (b g : Graph) (o : Outcome) → kept.to b g → kept.owed b o g
+  pub knows : (t : Task) (s g : Graph) (o : Outcome) → kept.known t s o g
 
-ending-holds : (kept : Kept) (b : Graph) (noted : Outcome → Graph → Graph) (p : Row) →
-    ((o : Outcome) (g : Graph) → Along kept b g → Along kept b (noted o g)) → Holds kept b p → Holds kept b (ending noted p)
-ending-holds kept b noted (Ret o s) n h = n o s h
+-- a whole row
+whole : (kept : Kept) (g : Graph) (m : Does Answer) → IsPlain kept → At kept g m → Along kept g g → Holds kept g (m finished g)
+whole kept g m plain p a = p finished g a (λ x g' q. (q, plain.owes g g' (Normal x) q.1))
+
+pub ending-holds : (kept : Kept) (b : Graph) (noted : Outcome → Graph → Graph) (p : Row) →
+    ((o : Outcome) (g : Graph) → Along kept b g → kept.owed b o g → Along kept b (noted o g) × kept.owed b o (noted o g)) →
+    Holds kept b p → Holds kept b (ending noted p)
+ending-holds kept b noted (Ret o s) n h = n o s h.0 h.1
 ending-holds kept b noted (Pay c s p) n h = (h.0, ending-holds kept b noted p n h.1)
 ending-holds kept b noted (Turn s p) n h = (h.0, ending-holds kept b noted p n h.1)
-ending-holds kept b noted (Do t s k) n h = (h.0, h.1, λ o s' q. ending-holds kept b noted (k o s') n (h.2 o s' q))
-ending-holds kept b noted (Again t s k) n h = (h.0, h.1, λ o s' q. ending-holds kept b noted (k o s') n (h.2 o s' q))
+ending-holds kept b noted (Do t s k) n h = (h.0, h.1, λ o s' q i. ending-holds kept b noted (k o s') n (h.2 o s' q i))
+ending-holds kept b noted (Again t s k) n h = (h.0, h.1, λ o s' q i. ending-holds kept b noted (k o s') n (h.2 o s' q i))
 
-entering-holds : (kept : Kept) (b : Graph) (enters : Bool) (noted : Outcome → Graph → Graph) (p : Row) →
-    ((o : Outcome) (g : Graph) → Along kept b g → Along kept b (noted o g)) → Holds kept b p →
-    Holds kept b (entering enters noted p)
+pub entering-holds : (kept : Kept) (b : Graph) (enters : Bool) (noted : Outcome → Graph → Graph) (p : Row) →
+    ((o : Outcome) (g : Graph) → Along kept b g → kept.owed b o g → Along kept b (noted o g) × kept.owed b o (noted o g)) →
+    Holds kept b p → Holds kept b (entering enters noted p)
 entering-holds kept b true noted p n h = ending-holds kept b noted p n h
 entering-holds kept b false noted p n h = h
 
-pub row-holds : (kept : Kept) (t : Task) (g : Graph) → (kept.cares → Fits t g) → Along kept g g → Holds kept g (row t g)
-row-holds kept (Evaluate s n sc this) g fit a =
+row-holds : (kept : Kept) → IsPlain kept → (t : Task) (g : Graph) → (kept.cares → Fits t g) → Along kept g g →
+    Holds kept g (row t g)
+row-holds kept plain (Evaluate s n sc this) g fit a =
     let c : Context = record { side = s; scope = sc; this = this } in
-    whole kept g (node_row c n) ((keeps-node_row kept c n).goes g) a
-row-holds kept (Loop s n sc this) g fit a =
+    whole kept g (node_row c n) plain ((keeps-node_row kept c n).goes g) a
+row-holds kept plain (Loop s n sc this) g fit a =
     let c : Context = record { side = s; scope = sc; this = this } in
-    whole kept g (loop_row c n) ((keeps-loop_row kept c n).goes g) a
-row-holds kept (Chain s x p) g fit a = whole kept g (chain_row s x p) ((keeps-chain_row kept s x p).goes g) a
-row-holds kept (Walk o p x) g fit a = whole kept g (walk_row o p x) (at-walk_row kept g o p x fit) a
-row-holds kept (Perform s m o v enters) g fit a =
+    whole kept g (loop_row c n) plain ((keeps-loop_row kept c n).goes g) a
+row-holds kept plain (Chain s x p) g fit a = whole kept g (chain_row s x p) plain ((keeps-chain_row kept s x p).goes g) a
+row-holds kept plain (Walk o p x) g fit a = whole kept g (walk_row o p x) plain (at-walk_row kept g o p x fit) a
+row-holds kept plain (Perform s m o v enters) g fit a =
     entering-holds kept g (makes_entry enters s o g) (method_noted (entries_made g) s o m) (perform_row s v o m finished g)
-    (λ q g' h. along-log kept g g' _ h)
-    (whole kept g (perform_row s v o m) (at-perform_row kept g s v o m fit) a)
-row-holds kept (Enter f this vs) g fit a = whole kept g (enter_row f this vs) ((keeps-enter_row kept f this vs).goes g) a
-row-holds kept (Run s p this vs target) g fit a =
-    whole kept g (run_row s p this vs target) ((keeps-run_row kept s p this vs target).goes g) a
-row-holds kept (Access s p c q) g fit a =
-    entering-holds kept g (is_foreign_at s (thing_at g c)) (access_noted (entries_made g) s p c q) (access_row s c q finished g)
-    (λ o g' h. along-log kept g g' _ h)
-    (whole kept g (access_row s c q) (at-access_row kept g s c q) a)
-row-holds kept (Visit s p c f this n) g fit a =
-    whole kept g (visit_row s p c f this n) ((keeps-visit_row kept s p c f this n).goes g) a
+    (λ q g' h i. let j = along-log kept g g' (method_noted (entries_made g) s o m q g').log h in (j, plain.owes g _ q j.1))
+    (whole kept g (perform_row s v o m) plain (at-perform_row kept g s v o m fit) a)
+row-holds kept plain (Enter f this vs) g fit a =
+    whole kept g (enter_row f this vs) plain ((keeps-enter_row kept f this vs).goes g) a
+row-holds kept plain (Run s p this vs target) g fit a =
+    whole kept g (run_row s p this vs target) plain ((keeps-run_row kept s p this vs target).goes g) a
+row-holds kept plain (Access s p c r) g fit a =
+    entering-holds kept g (is_foreign_at s (thing_at g c)) (access_noted (entries_made g) s p c r) (access_row s c r finished g)
+    (λ q g' h i. let j = along-log kept g g' (access_noted (entries_made g) s p c r q g').log h in (j, plain.owes g _ q j.1))
+    (whole kept g (access_row s c r) plain (at-access_row kept g s c r) a)
+row-holds kept plain (Visit s p c f this n) g fit a =
+    whole kept g (visit_row s p c f this n) plain ((keeps-visit_row kept s p c f this n).goes g) a
 
 -- ---- what tasks give
 
-abbrev EndAlong : Kept → Graph → Ends → Type 0
-EndAlong kept b (Gives o s f) = Along kept b s
-EndAlong kept b (Spent s f) = Along kept b s
+-- what is known of a task that ended, and what is owed of a row
+abbrev pub EndKnown : Kept → Task → Graph → Ends → Type 0
+EndKnown kept t b (Gives o s f) = Along kept b s × kept.known t b o s
+EndKnown kept t b (Spent s f) = Along kept b s
 
-if-along : (kept : Kept) (b : Graph) (c : Bool) (x y : Ends) → EndAlong kept b x → EndAlong kept b y →
-    EndAlong kept b (if c then x else y)
-if-along kept b true x y p q = p
-if-along kept b false x y p q = q
+abbrev pub EndOwed : Kept → Graph → Ends → Type 0
+EndOwed kept b (Gives o s f) = Along kept b s × kept.owed b o s
+EndOwed kept b (Spent s f) = Along kept b s
 
-then-along : (kept : Kept) (b s : Graph) (r : Ends) (k : Outcome → Graph → ℕ → Ends) → Along kept b s → EndAlong kept s r →
-    ((o : Outcome) (s' : Graph) (f : ℕ) → Along kept s s' → EndAlong kept b (k o s' f)) → EndAlong kept b (and_then r k)
-then-along kept b s (Gives o s' f) k a h n = n o s' f h
-then-along kept b s (Spent s' f) k a h n = along-on kept b s s' a h
+if-owed : (kept : Kept) (b : Graph) (c : Bool) (x y : Ends) → EndOwed kept b x → EndOwed kept b y →
+    EndOwed kept b (if c then x else y)
+if-owed kept b true x y p q = p
+if-owed kept b false x y p q = q
 
--- each task that fits goes on from where it begins
-abbrev Does_so : Kept → (Task → Graph → ℕ → Ends) → Type 0
-Does_so kept r = (t : Task) (s : Graph) (f : ℕ) → (kept.cares → Fits t s) → Along kept s s → EndAlong kept s (r t s f)
+then-owed : (kept : Kept) (b s : Graph) (t : Task) (r : Ends) (k : Outcome → Graph → ℕ → Ends) → Along kept b s →
+    EndKnown kept t s r →
+    ((o : Outcome) (s' : Graph) (f : ℕ) → Along kept s s' → kept.known t s o s' → EndOwed kept b (k o s' f)) →
+    EndOwed kept b (and_then r k)
+then-owed kept b s t (Gives o s' f) k a h n = n o s' f h.0 h.1
+then-owed kept b s t (Spent s' f) k a h n = along-on kept b s s' a h
 
-charged-along : (kept : Kept) (r : Task → Graph → ℕ → Ends) → Does_so kept r → Does_so kept (charged r)
-charged-along kept r n t s zero fit a = a
-charged-along kept r n t s (suc f) fit a = n t s f fit a
+-- each task that fits goes on from where it begins, and ends as is known
+abbrev pub DoesSo : Kept → (Task → Graph → ℕ → Ends) → Type 0
+DoesSo kept r = (t : Task) (s : Graph) (f : ℕ) → (kept.cares → Fits t s) → Along kept s s → EndKnown kept t s (r t s f)
 
-exec-along : (kept : Kept) (r : Task → Graph → ℕ → Ends) → Does_so kept r → (b : Graph) (begun : Bool) (p : Row) (f : ℕ) →
-    Holds kept b p → EndAlong kept b (exec (by r) begun p f)
-exec-along kept r n b begun (Ret o s) f h = h
-exec-along kept r n b begun (Pay c s p) f h =
-    if-along kept b (nat_lt f c) (Spent s f) (exec (by r) begun p (f - c)) h.0 (exec-along kept r n b begun p (f - c) h.1)
-exec-along kept r n b begun (Turn s p) f h =
-    if-along kept b (nat_lt f 1) (Spent s f) (exec (by r) true p (f - 1)) h.0 (exec-along kept r n b true p (f - 1) h.1)
-exec-along kept r n b begun (Do t s k) f h =
-    then-along kept b s (charged r t s f) (λ o s' f'. exec (by r) true (k o s') f') h.0
-    (charged-along kept r n t s f h.1 (along-stays kept b s h.0))
-    (λ o s' f' q. exec-along kept r n b true (k o s') f' (h.2 o s' q))
-exec-along kept r n b true (Again t s k) f h =
-    then-along kept b s (r t s f) (λ o s' f'. exec (by r) true (k o s') f') h.0 (n t s f h.1 (along-stays kept b s h.0))
-    (λ o s' f' q. exec-along kept r n b true (k o s') f' (h.2 o s' q))
-exec-along kept r n b false (Again t s k) f h = h.0
+charged-known : (kept : Kept) (r : Task → Graph → ℕ → Ends) → DoesSo kept r → DoesSo kept (charged r)
+charged-known kept r n t s zero fit a = a
+charged-known kept r n t s (suc f) fit a = n t s f fit a
 
-within-along : (kept : Kept) (depth : ℕ) → Does_so kept (within row depth)
-within-along kept zero t s f fit a = a
-within-along kept (suc depth) t s f fit a =
-    exec-along kept (within row depth) (within-along kept depth) s false (row t s) f (row-holds kept t s fit a)
+pub exec-owed : (kept : Kept) (r : Task → Graph → ℕ → Ends) → DoesSo kept r → (b : Graph) (begun : Bool) (p : Row) (f : ℕ) →
+    Holds kept b p → EndOwed kept b (exec (by r) begun p f)
+exec-owed kept r n b begun (Ret o s) f h = h
+exec-owed kept r n b begun (Pay c s p) f h =
+    if-owed kept b (nat_lt f c) (Spent s f) (exec (by r) begun p (f - c)) h.0 (exec-owed kept r n b begun p (f - c) h.1)
+exec-owed kept r n b begun (Turn s p) f h =
+    if-owed kept b (nat_lt f 1) (Spent s f) (exec (by r) true p (f - 1)) h.0 (exec-owed kept r n b true p (f - 1) h.1)
+exec-owed kept r n b begun (Do t s k) f h =
+    then-owed kept b s t (charged r t s f) (λ o s' f'. exec (by r) true (k o s') f') h.0
+    (charged-known kept r n t s f h.1 (along-stays kept b s h.0))
+    (λ o s' f' q i. exec-owed kept r n b true (k o s') f' (h.2 o s' q i))
+exec-owed kept r n b true (Again t s k) f h =
+    then-owed kept b s t (r t s f) (λ o s' f'. exec (by r) true (k o s') f') h.0 (n t s f h.1 (along-stays kept b s h.0))
+    (λ o s' f' q i. exec-owed kept r n b true (k o s') f' (h.2 o s' q i))
+exec-owed kept r n b false (Again t s k) f h = h.0
 
-given-along : (kept : Kept) → Does_so kept (given row)
+plain-known : (kept : Kept) → IsPlain kept → (t : Task) (b : Graph) (r : Ends) → EndOwed kept b r → EndKnown kept t b r
+plain-known kept plain t b (Gives o s f) h = (h.0, plain.knows t b s o)
+plain-known kept plain t b (Spent s f) h = h
+
+within-known : (kept : Kept) → IsPlain kept → (depth : ℕ) → DoesSo kept (within row depth)
+within-known kept plain zero t s f fit a = a
+within-known kept plain (suc depth) t s f fit a =
+    plain-known kept plain t s (exec (by (within row depth)) false (row t s) f)
+    (exec-owed kept (within row depth) (within-known kept plain depth) s false (row t s) f (row-holds kept plain t s fit a))
+
+pub given-known : (kept : Kept) → IsPlain kept → DoesSo kept (given row)
 unfolding given
-given-along kept t s f fit a = within-along kept (suc f) t s f fit a
+given-known kept plain t s f fit a = within-known kept plain (suc f) t s f fit a
 
 abbrev pub EndHolds : Kept → Graph → Ends → Type 0
 EndHolds kept b (Gives o s f) = kept.to b s
 EndHolds kept b (Spent s f) = kept.to b s
 
-end-holds : (kept : Kept) (b : Graph) (r : Ends) → EndAlong kept b r → EndHolds kept b r
-end-holds kept b (Gives o s f) h = h.1
-end-holds kept b (Spent s f) h = h.1
+end-holds : (kept : Kept) (t : Task) (b : Graph) (r : Ends) → EndKnown kept t b r → EndHolds kept b r
+end-holds kept t b (Gives o s f) h = h.0.1
+end-holds kept t b (Spent s f) h = h.1
 
-pub given-holds : (kept : Kept) (t : Task) (s : Graph) (f : ℕ) → (kept.cares → Fits t s) → kept.to s s → EndHolds kept s (given row t s f)
-given-holds kept t s f fit h = end-holds kept s (given row t s f) (given-along kept t s f fit (λ a x. x, h))
+pub given-holds : (kept : Kept) → IsPlain kept → (t : Task) (s : Graph) (f : ℕ) → (kept.cares → Fits t s) → kept.to s s →
+    EndHolds kept s (given row t s f)
+given-holds kept plain t s f fit h =
+    end-holds kept t s (given row t s f) (given-known kept plain t s f fit (λ a x. x, h))
 
-pub means-holds : (kept : Kept) (t : Task) (s : Graph) (f : ℕ) → (kept.cares → Fits t s) → kept.to s s → EndHolds kept s (Means t s f)
-means-holds kept t s f fit h =
-    end-holds kept s (Means t s f) (charged-along kept (given row) (given-along kept) t s f fit (λ a x. x, h))
+pub means-holds : (kept : Kept) → IsPlain kept → (t : Task) (s : Graph) (f : ℕ) → (kept.cares → Fits t s) → kept.to s s →
+    EndHolds kept s (Means t s f)
+means-holds kept plain t s f fit h =
+    end-holds kept t s (Means t s f) (charged-known kept (given row) (given-known kept plain) t s f fit (λ a x. x, h))

@@ -3,7 +3,7 @@ use Rattle.std.specs.Prelude.{pos}
 use Rattle.mb_world.specs.declared.cell.Coll.{Coll}
 use Rattle.mb_world.specs.Value.{Val, Undefined, Whole}
 use Rattle.mb_world.specs.Graph.{Graph, Slots, Kind, Collection, Thing}
-use Rattle.mb_world.specs.Objects.{thing_at}
+use Rattle.mb_world.specs.Objects.{thing_at, is_proxy_kind}
 use Rattle.mb_world.specs.View.{is_cut}
 use Rattle.mb_model.specs.Task.{Answer, Request, GetAt, SetAt, Add, Has, DeleteAt, Clear, Size, Slot, Value}
 use Rattle.mb_model.specs.Writing.{Does, ◌>>=◌, give, yes_or_no}
@@ -23,7 +23,7 @@ at-slots : (kept : Kept) (g : Graph) (c : Val) (kind : Coll) (ps qs : Slots) (m 
     ((h : Graph) → At kept h m) → At kept g (alter c (with_slots kind qs) >>= (λ _. m))
 at-slots kept g c kind ps qs m at more =
     at-then kept g (alter c (with_slots kind qs)) (λ _. m)
-    (at-alter_there kept g c (with_slots kind qs) at.0 at.1 (Recast (Collection kind qs) (ap target_is_array at.2) refl))
+    (at-alter_there kept g c (with_slots kind qs) at.0 at.1 (Recast (Collection kind qs) (ap target_is_array at.2) (ap is_proxy_kind at.2) refl))
     (λ _ g' q. more g')
 
 at-pair_stored : (kept : Kept) (g : Graph) (s : ℕ) (c : Val) (kind : Coll) (ps : Slots) (k v : Val) (b : Bool) →

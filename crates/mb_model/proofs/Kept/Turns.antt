@@ -8,7 +8,7 @@ use Rattle.mb_model.specs.Meaning.{row, Ends}
 use Rattle.mb_model.specs.Story.{Stage, turn_ended, job_ends, after, one_turn, take_turn, is_spent}
 use Rattle.mb_model.proofs.Engine.{given-falls}
 use Rattle.mb_model.proofs.Kept.Words.{Kept}
-use Rattle.mb_model.proofs.Kept.Rows.{EndHolds, given-holds, means-holds}
+use Rattle.mb_model.proofs.Kept.Rows.{IsPlain, EndHolds, given-holds, means-holds}
 use Rattle.mb_model.proofs.Kept.Queues.{script_of, scripts_of, scripts, queued}
 
 -- what a turn does to the queues and to the fuel
@@ -32,9 +32,9 @@ job-below s (CallJob v) g (suc f) =
     let h : left_of (job_ends s (CallJob v) g (suc f)) ≤ f = given-falls row _ g f in
     below-by (suc f + 0) (job_ends s (CallJob v) g (suc f)) (omega (arith, h))
 
-job-holds : (kept : Kept) (s : ℕ) (j : Job) (g : Graph) (f : ℕ) → kept.to g g → EndHolds kept g (job_ends s j g f)
-job-holds kept s Script g f h = given-holds kept _ g f (λ _. tt) h
-job-holds kept s (CallJob v) g f h = means-holds kept _ g f (λ _. tt) h
+job-holds : (kept : Kept) → IsPlain kept → (s : ℕ) (j : Job) (g : Graph) (f : ℕ) → kept.to g g → EndHolds kept g (job_ends s j g f)
+job-holds kept plain s Script g f h = given-holds kept plain _ g f (λ _. tt) h
+job-holds kept plain s (CallJob v) g f h = means-holds kept plain _ g f (λ _. tt) h
 
 -- the units that are left, and the scripts that wait
 abbrev pub to_come : Stage → ℕ
@@ -87,7 +87,7 @@ busy t s (Some (j ∷ js)) e f =
     let fewer : scripts g.queues + script_of j ≡ n = scripts-taken (t.graph.queues) s j js e in
     let same : length g.queues ≡ k = length-set (t.graph.queues) s js in
     let kept : EndHolds (queued k (scripts g.queues)) g (job_ends s j g t.left) =
-    job-holds (queued k (scripts g.queues)) s j g t.left (same, omega arith) in
+    job-holds (queued k (scripts g.queues)) (record { owes = λ b h o q. tt; knows = λ u s h o. tt }) s j g t.left (same, omega arith) in
     let ran : Less k (scripts g.queues) (to_come t) (after t s (turn_ended s (job_ends s j g t.left))) =
     ran-less k (scripts g.queues) (to_come t) t s g (job_ends s j g t.left) (t.left + script_of j) kept
     (job-below s j g t.left) (omega (arith, fewer)) in

@@ -15,11 +15,20 @@ use Rattle.mb_model.specs.Nodes.Scopes.{add_scope, giving}
 use Rattle.mb_model.specs.BuiltIns.Basics.{with_job}
 use Rattle.mb_model.proofs.Kept.Changes.{IsNew, NewOther, Change, Lasts, moved-lasts, made-lasts}
 
+-- a row ends without an answer
+abbrev pub IsAbrupt : Outcome → Type 0
+IsAbrupt (Normal a) = ⊥
+IsAbrupt _ = Unit {0}
+
 -- a relation between an earlier graph and a later one that goes on along each change which a row can make: an object is
--- made or changes, symbols, scopes and the log change, and a queue gets one more call. It may care that tasks fit
+-- made or changes, symbols, scopes and the log change, and a queue gets one more call. It may care that tasks fit; more
+-- may be owed where a row ends, which one that ends without an answer owes at once, and be known of how tasks end
 pub record Kept : Type 1 where
   pub cares : Type 0
   pub to : Graph → Graph → Type 0
+  pub owed : Graph → Outcome → Graph → Type 0
+  pub ended : (b g : Graph) (o : Outcome) → IsAbrupt o → to b g → owed b o g
+  pub known : Task → Graph → Outcome → Graph → Type 0
   pub stays : (f g : Graph) → to f g → to g g
   pub goes_on : (f g h : Graph) → to f g → to g h → to f h
   pub made : (f g : Graph) (t : Thing) → IsNew t → to f g → to f (with_object t g)
@@ -62,13 +71,13 @@ along-job kept f g s v p = (λ a x. p.0 a x, kept.job f g s v p.1)
 
 -- the states of a row go on from the graph where it began, and its tasks fit, if they go on wherever a task hands on
 abbrev pub Holds : Kept → Graph → Row → Type 0
-Holds kept b (Ret o s) = Along kept b s
+Holds kept b (Ret o s) = Along kept b s × kept.owed b o s
 Holds kept b (Pay n s p) = Along kept b s × Holds kept b p
 Holds kept b (Turn s p) = Along kept b s × Holds kept b p
 Holds kept b (Do t s k) =
-    Along kept b s × (kept.cares → Fits t s) × ((o : Outcome) (s' : Graph) → Along kept s s' → Holds kept b (k o s'))
+    Along kept b s × (kept.cares → Fits t s) × ((o : Outcome) (s' : Graph) → Along kept s s' → kept.known t s o s' → Holds kept b (k o s'))
 Holds kept b (Again t s k) =
-    Along kept b s × (kept.cares → Fits t s) × ((o : Outcome) (s' : Graph) → Along kept s s' → Holds kept b (k o s'))
+    Along kept b s × (kept.cares → Fits t s) × ((o : Outcome) (s' : Graph) → Along kept s s' → kept.known t s o s' → Holds kept b (k o s'))
 
 -- a part of a row does so from one graph; of what it gives, and of the graph then, more may be known
 abbrev pub Gets : {A : Type 0} → Kept → (A → Graph → Type 0) → Graph → Does A → Type 0
@@ -123,29 +132,29 @@ keeps-truth kept b = keeps-is_value kept (Truth b)
 pub keeps-yes_or_no : (kept : Kept) (b : Bool) → Goes kept (yes_or_no b)
 keeps-yes_or_no kept b = keeps-give kept (Answer.Flag b)
 
-pub keeps-ends : {A : Type 0} (kept : Kept) (o : Outcome) → Goes {A = A} kept (ends o)
-keeps-ends kept o = record { goes = λ g k b p h. p }
+pub keeps-ends : {A : Type 0} (kept : Kept) (o : Outcome) → IsAbrupt o → Goes {A = A} kept (ends o)
+keeps-ends kept o abrupt = record { goes = λ g k b p h. (p, kept.ended b g o abrupt p.1) }
 
 pub keeps-throw : {A : Type 0} (kept : Kept) (v : Val) → Goes {A = A} kept (throw v)
-keeps-throw kept v = record { goes = λ g k b p h. p }
+keeps-throw kept v = keeps-ends kept (Throw v) tt
 
 pub keeps-pass : (kept : Kept) (o : Outcome) → Goes kept (pass o)
 keeps-pass kept (Normal a) = keeps-give kept a
-keeps-pass kept (Throw v) = keeps-ends kept (Throw v)
-keeps-pass kept (Return v) = keeps-ends kept (Return v)
-keeps-pass kept Break = keeps-ends kept Break
-keeps-pass kept Continue = keeps-ends kept Continue
+keeps-pass kept (Throw v) = keeps-ends kept (Throw v) tt
+keeps-pass kept (Return v) = keeps-ends kept (Return v) tt
+keeps-pass kept Break = keeps-ends kept Break tt
+keeps-pass kept Continue = keeps-ends kept Continue tt
 
 pub at-outcome : (kept : Kept) (g : Graph) (t : Task) → (kept.cares → Fits t g) → At kept g (outcome t)
-at-outcome kept g t fit k b p h = (p, fit, h)
+at-outcome kept g t fit k b p h = (p, fit, λ o s q n. h o s q)
 
 pub at-answer : (kept : Kept) (g : Graph) (t : Task) → (kept.cares → Fits t g) → At kept g (answer t)
 at-answer kept g t fit k b p h =
-    (p, fit, λ o s q. (keeps-pass kept o).goes s k b (along-on kept b g s p q) (λ a s' q'. h a s' (along-on kept g s s' q q')))
+    (p, fit, λ o s q n. (keeps-pass kept o).goes s k b (along-on kept b g s p q) (λ a s' q'. h a s' (along-on kept g s s' q q')))
 
 pub at-again : (kept : Kept) (g : Graph) (t : Task) → (kept.cares → Fits t g) → At kept g (again t)
 at-again kept g t fit k b p h =
-    (p, fit, λ o s q. (keeps-pass kept o).goes s k b (along-on kept b g s p q) (λ a s' q'. h a s' (along-on kept g s s' q q')))
+    (p, fit, λ o s q n. (keeps-pass kept o).goes s k b (along-on kept b g s p q) (λ a s' q'. h a s' (along-on kept g s s' q q')))
 
 pub keeps-outcome : (kept : Kept) (t : Task) → ((g : Graph) → kept.cares → Fits t g) → Goes kept (outcome t)
 keeps-outcome kept t fit = record { goes = λ g. at-outcome kept g t (fit g) }
@@ -202,17 +211,19 @@ keeps-make_symbol kept d =
     }
 
 -- a row that fails ends there
+failed : (kept : Kept) (b g : Graph) (s : ℕ) (kind : ErrorKind) → Along kept b g →
+    Holds kept b (Ret (Throw (Object (length g.objects))) (with_object (new_thing s None (Fault kind) (error_prototype kind)) g))
+failed kept b g s kind p =
+    let t : Thing = new_thing s None (Fault kind) (error_prototype kind) in
+    let q : Along kept b (with_object t g) = along-made kept b g t (NewOther refl ([], refl)) p in
+    (q, kept.ended b (with_object t g) (Throw (Object (length g.objects))) tt q.1)
+
 pub gets-fail : {A : Type 0} (kept : Kept) (known : A → Graph → Type 0) (g : Graph) (s : ℕ) (kind : ErrorKind) →
     Gets {A = A} kept known g (fail s kind)
-gets-fail kept known g s kind k b p h =
-    along-made kept b g (new_thing s None (Fault kind) (error_prototype kind)) (NewOther refl ([], refl)) p
+gets-fail kept known g s kind k b p h = failed kept b g s kind p
 
 pub keeps-fail : {A : Type 0} (kept : Kept) (s : ℕ) (kind : ErrorKind) → Goes {A = A} kept (fail s kind)
-keeps-fail kept s kind =
-    record {
-      goes = λ g k b p h.
-          along-made kept b g (new_thing s None (Fault kind) (error_prototype kind)) (NewOther refl ([], refl)) p;
-    }
+keeps-fail kept s kind = record { goes = λ g k b p h. failed kept b g s kind p }
 
 pub keeps-type_error : {A : Type 0} (kept : Kept) (s : ℕ) → Goes {A = A} kept (type_error s)
 keeps-type_error kept s = keeps-fail kept s TypeError
