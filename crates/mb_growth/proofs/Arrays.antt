@@ -35,17 +35,21 @@ use Rattle.mb_growth.proofs.Steps.{later-refl, moves-on, one-change, with-moves,
 set-length : (t : Thing) (old : Val) (n : ℕ) (w : Bool) → IsFormed t → own_property length_key t ≡ Some (Datum old true false false) → Moves t (with_length n w t)
 set-length t old n w formed at =
     let new : Full Val = Datum (Whole (pos n)) w false false in
-    one-change t (with_length n w t) (Define length_key (value_and_flag (Whole (pos n)) w) new) (with-is length_key (value_and_flag (Whole (pos n)) w) new t) refl refl refl refl formed
-    (refl, ap (λ (o : Option (Full Val)). Validate same_value Undefined t.extensible o (value_and_flag (Whole (pos n)) w)) (sym (own-is length_key t) ∙ at)
-    ∙ length-accepted same_value Undefined t.extensible old (Whole (pos n)) w)
+    one-change t (with_length n w t) (Define length_key (value_and_flag (Whole (pos n)) w) new) (with-is length_key (value_and_flag (Whole (pos n)) w) new t) refl refl refl refl formed (
+      refl,
+      ap (λ (o : Option (Full Val)). Validate same_value Undefined t.extensible o (value_and_flag (Whole (pos n)) w)) (sym (own-is length_key t) ∙ at)
+          ∙ length-accepted same_value Undefined t.extensible old (Whole (pos n)) w,
+    )
 
 -- one that can't be written is put again as it is
 same-length : (t : Thing) (n : ℕ) → IsFormed t → own_property length_key t ≡ Some (Datum (Whole (pos n)) false false false) → Moves t (with_length n false t)
 same-length t n formed at =
     let old : Full Val = Datum (Whole (pos n)) false false false in
-    one-change t (with_length n false t) (Define length_key (descriptor_of old) old) (with-is length_key (descriptor_of old) old t) refl refl refl refl formed
-    (refl, ap (λ (o : Option (Full Val)). Validate same_value Undefined t.extensible o (descriptor_of old)) (sym (own-is length_key t) ∙ at)
-    ∙ accepts-kept same_value Undefined value-refl t.extensible old old refl (keeps-refl old))
+    one-change t (with_length n false t) (Define length_key (descriptor_of old) old) (with-is length_key (descriptor_of old) old t) refl refl refl refl formed (
+      refl,
+      ap (λ (o : Option (Full Val)). Validate same_value Undefined t.extensible o (descriptor_of old)) (sym (own-is length_key t) ∙ at)
+          ∙ accepts-kept same_value Undefined value-refl t.extensible old old refl (keeps-refl old),
+    )
 
 -- ---- a shorter length
 abbrev holding : List Property → Thing → Thing

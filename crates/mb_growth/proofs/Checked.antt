@@ -197,22 +197,23 @@ same-truth false false f g = refl
 
 pub keys-tell : (view : Sees) (ks : List PropertyKey) → own_keys_pass view ks ≡ true
     → Passes same_key same_value Undefined (deed.OwnPropertyKeys ks) view
-keys-tell view ks h =
-    (λ k f.
-        let kept : list_any (same_key k) fixed ≡ true =
-        found-kept is_fixed k view.properties f.0 f.1 (ap not f.2) in
-        sym (among-is k ks) ∙ all-member (λ x. is_among same_key x ks) k fixed (not-not (all_among same_key fixed ks) two.0) kept,
-    λ closed k.
-        let three : all_among same_key (fixed ++ loose) ks && all_among same_key ks (fixed ++ loose) ≡ true =
-        all-listed view.extensible closed third.0 in
-        let there : list_any (same_key k) (fixed ++ loose) ≡ is_some (property_of same_key view k) =
-        both-kept k view.properties ∙ any-lookup (same_key k) view.properties in
-        same-truth (list_any (same_key k) ks) (list_any (same_key k) (fixed ++ loose))
-        (λ i. sym (among-is k (fixed ++ loose)) ∙ all-member (λ x. is_among same_key x (fixed ++ loose)) k ks
-            (and-second (all_among same_key (fixed ++ loose) ks) (all_among same_key ks (fixed ++ loose)) three) i)
-        (λ i. sym (among-is k ks) ∙ all-member (λ x. is_among same_key x ks) k (fixed ++ loose)
-            (and-first (all_among same_key (fixed ++ loose) ks) (all_among same_key ks (fixed ++ loose)) three) i)
-        ∙ there)
+keys-tell view ks h = (
+  λ k f.
+      let kept : list_any (same_key k) fixed ≡ true =
+      found-kept is_fixed k view.properties f.0 f.1 (ap not f.2) in
+      sym (among-is k ks) ∙ all-member (λ x. is_among same_key x ks) k fixed (not-not (all_among same_key fixed ks) two.0) kept,
+  λ closed k.
+      let three : all_among same_key (fixed ++ loose) ks && all_among same_key ks (fixed ++ loose) ≡ true =
+      all-listed view.extensible closed third.0 in
+      let there : list_any (same_key k) (fixed ++ loose) ≡ is_some (property_of same_key view k) =
+      both-kept k view.properties ∙ any-lookup (same_key k) view.properties in
+      same-truth (list_any (same_key k) ks) (list_any (same_key k) (fixed ++ loose))
+      (λ i. sym (among-is k (fixed ++ loose)) ∙ all-member (λ x. is_among same_key x (fixed ++ loose)) k ks
+      (and-second (all_among same_key (fixed ++ loose) ks) (all_among same_key ks (fixed ++ loose)) three) i)
+      (λ i. sym (among-is k ks) ∙ all-member (λ x. is_among same_key x ks) k (fixed ++ loose)
+      (and-first (all_among same_key (fixed ++ loose) ks) (all_among same_key ks (fixed ++ loose)) three) i)
+      ∙ there,
+)
   where
     fixed : List PropertyKey
     fixed = keys_with is_fixed view

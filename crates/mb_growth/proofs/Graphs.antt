@@ -3,7 +3,6 @@ use Rattle.std.proofs.Common.{◌≡◌, ℕ, zero, suc, List, [], ◌∷◌, �
 use Rattle.std.specs.Prelude.{slice_get, slice_set}
 use Rattle.mb_world.specs.Value.{Undefined, Null, Truth, Whole, Text, Symbol, Object, BuiltIn}
 use Rattle.mb_world.specs.Graph.{Thing}
-
 use Rattle.mb_growth.specs.Objects.{IsFormed}
 use Rattle.mb_growth.specs.Later.{IsLater}
 use Rattle.mb_growth.specs.Laws.{StaysLater, GoesOnLater, OneMoves, OneIsMade}

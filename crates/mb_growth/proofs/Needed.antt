@@ -61,10 +61,13 @@ not-moved each =
     cc
 
 pub walks-must-fit : WalksMustFit
-walks-must-fit =
-    (only sealed,
-    (only-formed sealed (record { distinct = nothing-distinct; array = λ a. absurd (let bad : false ≡ true = a in cc) }),
-    λ each. not-moved (subst (EachEvolves (only sealed)) walked each)))
+walks-must-fit = (
+  only sealed,
+  (
+    only-formed sealed (record { distinct = nothing-distinct; array = λ a. absurd (let bad : false ≡ true = a in cc) }),
+    λ each. not-moved (subst (EachEvolves (only sealed)) walked each),
+  ),
+)
 
 -- ---- a definition
 
@@ -101,7 +104,12 @@ not-loosened each =
     cc
 
 pub definitions-must-fit : DefinitionsMustFit
-definitions-must-fit =
-    (only (holding fixed), key, both,
-    (only-formed (holding fixed) (record { distinct = one-distinct; array = λ a. absurd (let bad : false ≡ true = a in cc) }),
-    λ each. not-loosened (subst (EachEvolves (only (holding fixed))) defined each)))
+definitions-must-fit = (
+  only (holding fixed),
+  key,
+  both,
+  (
+    only-formed (holding fixed) (record { distinct = one-distinct; array = λ a. absurd (let bad : false ≡ true = a in cc) }),
+    λ each. not-loosened (subst (EachEvolves (only (holding fixed))) defined each),
+  ),
+)

@@ -83,9 +83,9 @@ module _ (p k : ℕ) (b g : Graph) (u : Thing) (t : IsTarget k g u) (reach : Rea
       gets-bind (answering p k (Get i r)) (λ x h. (x ≡ shown_property g p u i) × Frozen g h) (Owed p k (Get i r) b) g
       (read_own p (Object k) i) (λ real. judge p (rule.get said real) (Value said)) (gets-own p k (Get i r) b g g u i t (refl, refl) reach)
       (λ real h q x.
-          gets-judged p k (Get i r) b h (rule.get said real) (Value said)
-          (λ pass. frozen-owes p k (Get i r) b g h u (Value said) t x.1 (reaches-on b g h reach q.1)
-              (subst (λ (o : Option (Full Val)). AllowsGot same_value Undefined o said) (x.0 ∙ sym (seen-at g p u i)) (got-tells said real pass))))
+      gets-judged p k (Get i r) b h (rule.get said real) (Value said)
+      (λ pass. frozen-owes p k (Get i r) b g h u (Value said) t x.1 (reaches-on b g h reach q.1)
+      (subst (λ (o : Option (Full Val)). AllowsGot same_value Undefined o said) (x.0 ∙ sym (seen-at g p u i)) (got-tells said real pass))))
 
   gets-set_said : (i : PropertyKey) (x r : Val) (said : Bool)
       → Gets (answering p k (Set i x r)) (Owed p k (Set i x r) b) g (set_said p (Object k) i x said)
@@ -96,9 +96,9 @@ module _ (p k : ℕ) (b g : Graph) (u : Thing) (t : IsTarget k g u) (reach : Rea
       gets-bind (answering p k (Set i x r)) (λ o h. (o ≡ shown_property g p u i) × Frozen g h) (Owed p k (Set i x r) b) g
       (read_own p (Object k) i) (λ real. judge p (rule.set x real) (Flag true)) (gets-own p k (Set i x r) b g g u i t (refl, refl) reach)
       (λ real h q y.
-          gets-judged p k (Set i x r) b h (rule.set x real) (Flag true)
-          (λ pass. frozen-owes p k (Set i x r) b g h u (Flag true) t y.1 (reaches-on b g h reach q.1)
-              (subst (λ (o : Option (Full Val)). AllowsSet same_value Undefined o x) (y.0 ∙ sym (seen-at g p u i)) (put-tells x real pass))))
+      gets-judged p k (Set i x r) b h (rule.set x real) (Flag true)
+      (λ pass. frozen-owes p k (Set i x r) b g h u (Flag true) t y.1 (reaches-on b g h reach q.1)
+      (subst (λ (o : Option (Full Val)). AllowsSet same_value Undefined o x) (y.0 ∙ sym (seen-at g p u i)) (put-tells x real pass))))
 
   gets-define_said : (i : PropertyKey) (d : Desc Val) (said : Bool)
       → Gets (answering p k (DefineOwnProperty i d)) (Owed p k (DefineOwnProperty i d) b) g (define_said p (Object k) i d said)
@@ -110,15 +110,15 @@ module _ (p k : ℕ) (b g : Graph) (u : Thing) (t : IsTarget k g u) (reach : Rea
       (read_own p (Object k) i) (λ real. define_read p (Object k) d real)
       (gets-own p k (DefineOwnProperty i d) b g g u i t (refl, refl) reach)
       (λ real h q y.
-          let there : Reaches b h = reaches-on b g h reach q.1 in
-          gets-bind (answering p k (DefineOwnProperty i d)) (λ e j. (e ≡ u.extensible) × Frozen g j) (Owed p k (DefineOwnProperty i d) b) h
-          (read_extensible p (Object k)) (λ e. judge p (rule.define d real e) (Flag true))
-          (gets-extensible p k (DefineOwnProperty i d) b g h u t y.1 there)
-          (λ e j r z.
-              gets-judged p k (DefineOwnProperty i d) b j (rule.define d real e) (Flag true)
-              (λ pass. frozen-owes p k (DefineOwnProperty i d) b g j u (Flag true) t z.1 (reaches-on b h j there r.1)
-                  (subst (λ (o : Option (Full Val)). AllowsDefined same_value Undefined u.extensible o d) (y.0 ∙ sym (seen-at g p u i))
-                  (subst (λ (x : Bool). AllowsDefined same_value Undefined x real d) z.0 (define-tells d real e pass))))))
+      let there : Reaches b h = reaches-on b g h reach q.1 in
+      gets-bind (answering p k (DefineOwnProperty i d)) (λ e j. (e ≡ u.extensible) × Frozen g j) (Owed p k (DefineOwnProperty i d) b) h
+      (read_extensible p (Object k)) (λ e. judge p (rule.define d real e) (Flag true))
+      (gets-extensible p k (DefineOwnProperty i d) b g h u t y.1 there)
+      (λ e j r z.
+      gets-judged p k (DefineOwnProperty i d) b j (rule.define d real e) (Flag true)
+      (λ pass. frozen-owes p k (DefineOwnProperty i d) b g j u (Flag true) t z.1 (reaches-on b h j there r.1)
+      (subst (λ (o : Option (Full Val)). AllowsDefined same_value Undefined u.extensible o d) (y.0 ∙ sym (seen-at g p u i))
+      (subst (λ (x : Bool). AllowsDefined same_value Undefined x real d) z.0 (define-tells d real e pass))))))
 
   gets-own_converted : (i : PropertyKey) (d : Desc Val)
       → Gets (answering p k (GetOwnProperty i)) (Owed p k (GetOwnProperty i) b) g (own_converted p (Object k) i d)
@@ -127,18 +127,18 @@ module _ (p k : ℕ) (b g : Graph) (u : Thing) (t : IsTarget k g u) (reach : Rea
       (read_own p (Object k) i) (λ real. own_read p (Object k) (Complete Undefined d) real)
       (gets-own p k (GetOwnProperty i) b g g u i t (refl, refl) reach)
       (λ real h q y.
-          let there : Reaches b h = reaches-on b g h reach q.1 in
-          gets-bind (answering p k (GetOwnProperty i)) (λ e j. (e ≡ u.extensible) × Frozen g j) (Owed p k (GetOwnProperty i) b) h
-          (read_extensible p (Object k)) (λ e. judge p (rule.own_present (Complete Undefined d) real e) (Prop (Some (Complete Undefined d))))
-          (gets-extensible p k (GetOwnProperty i) b g h u t y.1 there)
-          (λ e j r z.
-              gets-judged p k (GetOwnProperty i) b j (rule.own_present (Complete Undefined d) real e) (Prop (Some (Complete Undefined d)))
-              (λ pass. frozen-owes p k (GetOwnProperty i) b g j u (Prop (Some (Complete Undefined d))) t z.1 (reaches-on b h j there r.1)
-                  (subst (λ (x : Full Val). AllowsSaid same_value Undefined u.extensible (property_of same_key (Shown g p u) i) x)
-                  (sym (complete-is (Complete Undefined d)))
-                  (subst (λ (o : Option (Full Val)). AllowsSaid same_value Undefined u.extensible o (Complete Undefined d)) (y.0 ∙ sym (seen-at g p u i))
-                  (subst (λ (x : Bool). AllowsSaid same_value Undefined x real (Complete Undefined d)) z.0
-                  (present-tells (Complete Undefined d) real e pass)))))))
+      let there : Reaches b h = reaches-on b g h reach q.1 in
+      gets-bind (answering p k (GetOwnProperty i)) (λ e j. (e ≡ u.extensible) × Frozen g j) (Owed p k (GetOwnProperty i) b) h
+      (read_extensible p (Object k)) (λ e. judge p (rule.own_present (Complete Undefined d) real e) (Prop (Some (Complete Undefined d))))
+      (gets-extensible p k (GetOwnProperty i) b g h u t y.1 there)
+      (λ e j r z.
+      gets-judged p k (GetOwnProperty i) b j (rule.own_present (Complete Undefined d) real e) (Prop (Some (Complete Undefined d)))
+      (λ pass. frozen-owes p k (GetOwnProperty i) b g j u (Prop (Some (Complete Undefined d))) t z.1 (reaches-on b h j there r.1)
+      (subst (λ (x : Full Val). AllowsSaid same_value Undefined u.extensible (property_of same_key (Shown g p u) i) x)
+      (sym (complete-is (Complete Undefined d)))
+      (subst (λ (o : Option (Full Val)). AllowsSaid same_value Undefined u.extensible o (Complete Undefined d)) (y.0 ∙ sym (seen-at g p u i))
+      (subst (λ (x : Bool). AllowsSaid same_value Undefined x real (Complete Undefined d)) z.0
+      (present-tells (Complete Undefined d) real e pass)))))))
 
 -- ---- own keys
 
@@ -150,7 +150,6 @@ parted_by shows (i ∷ is) x = parted_by shows is (with_parted i x (shows i))
 -- those of a view are parted as its properties are
 abbrev Pieces : Type 0
 Pieces = List (PropertyKey × Full Val)
-
 
 -- a key that is there, put where it belongs
 abbrev Parts : Parted → Pieces → Parted → Type 0
@@ -197,15 +196,15 @@ module _ (p k : ℕ) (b s : Graph) (u : Thing) (t : IsTarget k s u) (said : List
   gets-parted e same [] x g f reach passes =
       gets-judged p k OwnPropertyKeys b g (rule.own_keys said x.fixed x.loose e) (Keys said)
       (λ pass. frozen-owes p k OwnPropertyKeys b s g u (Keys said) t f reach
-          (passes (subst (λ (z : Bool). is_pass (rule.own_keys said x.fixed x.loose z) ≡ true) same pass)))
+      (passes (subst (λ (z : Bool). is_pass (rule.own_keys said x.fixed x.loose z) ≡ true) same pass)))
   gets-parted e same (i ∷ is) x g f reach passes =
       gets-bind (answering p k OwnPropertyKeys) (λ o h. (o ≡ shown_property s p u i) × Frozen s h) (Owed p k OwnPropertyKeys b) g
       (read_own p (Object k) i) (λ real. keys_parted p (Object k) said e is (with_parted i x real))
       (gets-own p k OwnPropertyKeys b s g u i t f reach)
       (λ real h q y.
-          subst (λ (o : Option (Full Val)). Gets (answering p k OwnPropertyKeys) (Owed p k OwnPropertyKeys b) h
-              (keys_parted p (Object k) said e is (with_parted i x o))) (sym y.0)
-          (gets-parted e same is (with_parted i x (shown_property s p u i)) h y.1 (reaches-on b g h reach q.1) passes))
+      subst (λ (o : Option (Full Val)). Gets (answering p k OwnPropertyKeys) (Owed p k OwnPropertyKeys b) h
+      (keys_parted p (Object k) said e is (with_parted i x o))) (sym y.0)
+      (gets-parted e same is (with_parted i x (shown_property s p u i)) h y.1 (reaches-on b g h reach q.1) passes))
 
   gets-keys_read : (e : Bool) → e ≡ u.extensible → (g : Graph) → Frozen s g → Reaches b g
       → Gets (answering p k OwnPropertyKeys) (Owed p k OwnPropertyKeys b) g (keys_read p (Object k) said e (shown_keys s p u))
@@ -215,9 +214,9 @@ module _ (p k : ℕ) (b s : Graph) (u : Thing) (t : IsTarget k s u) (said : List
       parted-is (shown_property s p u) (keys_in_order (property_keys u.properties)) nothing in
       gets-parted e same (shown_keys s p u) nothing g f reach
       (λ pass. keys-tell (Shown s p u) said
-          (subst (λ (xs : List PropertyKey). is_pass (rule.own_keys said (keys_with is_fixed (Shown s p u)) xs u.extensible) ≡ true) parts.1
-          (subst (λ (xs : List PropertyKey). is_pass (rule.own_keys said xs (parted_by (shown_property s p u) (shown_keys s p u) nothing).loose u.extensible) ≡ true)
-          parts.0 pass)))
+      (subst (λ (xs : List PropertyKey). is_pass (rule.own_keys said (keys_with is_fixed (Shown s p u)) xs u.extensible) ≡ true) parts.1
+      (subst (λ (xs : List PropertyKey). is_pass (rule.own_keys said xs (parted_by (shown_property s p u) (shown_keys s p u) nothing).loose u.extensible) ≡ true)
+      parts.0 pass)))
 
   gets-keys_extensible : (e : Bool) → e ≡ u.extensible → (g : Graph) → Frozen s g → Reaches b g
       → Gets (answering p k OwnPropertyKeys) (Owed p k OwnPropertyKeys b) g (keys_extensible p (Object k) said e)
@@ -226,8 +225,8 @@ module _ (p k : ℕ) (b s : Graph) (u : Thing) (t : IsTarget k s u) (said : List
       (answer (perform p OwnPropertyKeys (Object k)) >>= (λ a. give (keys_in a))) (λ ks. keys_read p (Object k) said e ks)
       (gets-listed p k OwnPropertyKeys b s g u t f reach)
       (λ ks h q y.
-          subst (λ (xs : List PropertyKey). Gets (answering p k OwnPropertyKeys) (Owed p k OwnPropertyKeys b) h (keys_read p (Object k) said e xs)) (sym y.0)
-          (gets-keys_read e same h y.1 (reaches-on b g h reach q.1)))
+      subst (λ (xs : List PropertyKey). Gets (answering p k OwnPropertyKeys) (Owed p k OwnPropertyKeys b) h (keys_read p (Object k) said e xs)) (sym y.0)
+      (gets-keys_read e same h y.1 (reaches-on b g h reach q.1)))
 
   gets-keys_listed : Reaches b s → Gets (answering p k OwnPropertyKeys) (Owed p k OwnPropertyKeys b) s (keys_listed p (Object k) said)
   gets-keys_listed reach =
@@ -250,9 +249,9 @@ module _ (p k : ℕ) (b : Graph) (u : Thing) (t : IsTarget k b u) where
   gets-through m g part f reach goes more =
       gets-after (answering p k m) (Owed p k m b) g part f goes
       (λ a h q.
-          let there : Reaches b h = reaches-on b g h reach q.1 in
-          let w = later-target k b h u t there in
-          more a h w.0 w.1 there)
+      let there : Reaches b h = reaches-on b g h reach q.1 in
+      let w = later-target k b h u t there in
+      more a h w.0 w.1 there)
 
   gets-own_said : (i : PropertyKey) (said : Val) (g : Graph) (w : Thing) → IsTarget k g w → Reaches b g
       → Going (GetOwnProperty i) g (own_said p (Object k) i said)
@@ -303,9 +302,9 @@ module _ (p k : ℕ) (b : Graph) (u : Thing) (t : IsTarget k b u) where
       (λ o. trap_flag p (Object k) h trap (value_of_key j ∷ o ∷ []) >>= (λ said. define_said p (Object k) j d said)) reach
       ((keeps-fromdesc (answering p k (DefineOwnProperty j d)) p d).goes g)
       (λ o i w at there.
-          gets-through (DefineOwnProperty j d) i (trap_flag p (Object k) h trap (value_of_key j ∷ o ∷ [])) (λ said. define_said p (Object k) j d said) there
-          ((keeps-trap_flag (answering p k (DefineOwnProperty j d)) p (Object k) h trap (value_of_key j ∷ o ∷ [])).goes i)
-          (λ said l x is reaches. gets-define_said p k b l x is reaches j d said))
+      gets-through (DefineOwnProperty j d) i (trap_flag p (Object k) h trap (value_of_key j ∷ o ∷ [])) (λ said. define_said p (Object k) j d said) there
+      ((keeps-trap_flag (answering p k (DefineOwnProperty j d)) p (Object k) h trap (value_of_key j ∷ o ∷ [])).goes i)
+      (λ said l x is reaches. gets-define_said p k b l x is reaches j d said))
   gets-trapped h trap (HasProperty j) g reach =
       gets-through (HasProperty j) g (trap_flag p (Object k) h trap (value_of_key j ∷ [])) (λ said. has_said p (Object k) j said) reach
       ((keeps-trap_flag (answering p k (HasProperty j)) p (Object k) h trap (value_of_key j ∷ [])).goes g)
@@ -326,25 +325,25 @@ module _ (p k : ℕ) (b : Graph) (u : Thing) (t : IsTarget k b u) where
       gets-through OwnPropertyKeys g (trap_value p (Object k) h trap []) (λ said. keys_said p (Object k) said) reach
       ((keeps-trap_value (answering p k OwnPropertyKeys) p (Object k) h trap []).goes g)
       (λ said i w at there.
-          gets-through OwnPropertyKeys i (list_of p true said) (λ vs. keys_listed p (Object k) (as_keys vs)) there
-          ((keeps-list_of (answering p k OwnPropertyKeys) p true said).goes i)
-          (λ vs l x is reaches. gets-keys_listed p k b l x is (as_keys vs) reaches))
+      gets-through OwnPropertyKeys i (list_of p true said) (λ vs. keys_listed p (Object k) (as_keys vs)) there
+      ((keeps-list_of (answering p k OwnPropertyKeys) p true said).goes i)
+      (λ vs l x is reaches. gets-keys_listed p k b l x is (as_keys vs) reaches))
   gets-trapped h trap (Call this vs) g reach =
       gets-through (Call this vs) g (make_array p vs)
       (λ a. trap_value p (Object k) h trap (this ∷ a ∷ []) >>= (λ said. give (Value said))) reach
       ((keeps-make_array (answering p k (Call this vs)) p vs).goes g)
       (λ a i w at there.
-          gets-through (Call this vs) i (trap_value p (Object k) h trap (this ∷ a ∷ [])) (λ said. give (Value said)) there
-          ((keeps-trap_value (answering p k (Call this vs)) p (Object k) h trap (this ∷ a ∷ [])).goes i)
-          (λ said l x is reaches. gets-called (Call this vs) (Value said) l reaches (λ view. tt)))
+      gets-through (Call this vs) i (trap_value p (Object k) h trap (this ∷ a ∷ [])) (λ said. give (Value said)) there
+      ((keeps-trap_value (answering p k (Call this vs)) p (Object k) h trap (this ∷ a ∷ [])).goes i)
+      (λ said l x is reaches. gets-called (Call this vs) (Value said) l reaches (λ view. tt)))
   gets-trapped h trap (Construct vs target) g reach =
       gets-through (Construct vs target) g (make_array p vs)
       (λ a. trap_value p (Object k) h trap (a ∷ target ∷ []) >>= (λ said. construct_said p said)) reach
       ((keeps-make_array (answering p k (Construct vs target)) p vs).goes g)
       (λ a i w at there.
-          gets-through (Construct vs target) i (trap_value p (Object k) h trap (a ∷ target ∷ [])) (λ said. construct_said p said) there
-          ((keeps-trap_value (answering p k (Construct vs target)) p (Object k) h trap (a ∷ target ∷ [])).goes i)
-          (λ said l x is reaches. gets-construct_said vs target said l reaches))
+      gets-through (Construct vs target) i (trap_value p (Object k) h trap (a ∷ target ∷ [])) (λ said. construct_said p said) there
+      ((keeps-trap_value (answering p k (Construct vs target)) p (Object k) h trap (a ∷ target ∷ [])).goes i)
+      (λ said l x is reaches. gets-construct_said vs target said l reaches))
 
   gets-call_trap : (h trap : Val) (m : Method) (c : Bool) (g : Graph) → Reaches b g → Going m g (call_trap p (Object k) h trap m c)
   gets-call_trap h trap m false g reach = gets-fail (answering p k m) (Owed p k m b) g p TypeError
@@ -385,7 +384,7 @@ module _ (p k : ℕ) (b : Graph) (u : Thing) (t : IsTarget k b u) where
   gets-untrapped s m g w fit target reach c base q more =
       gets-answer (answering p k m) g (Perform s m (Object k) p false) fit c base q
       (λ a h on known.
-          more a h on (untrapped-owes m g h w a target reach on.1 (known k w refl target.0 target.1 fit reach.0.0).0))
+      more a h on (untrapped-owes m g h w a target reach on.1 (known k w refl target.0 target.1 fit reach.0.0).0))
 
   gets-trap_got : (s : ℕ) (h trap : Val) (m : Method) (g : Graph) (w : Thing) (c : Bool) → is_nullish trap ≡ c → FitsMethod m → IsTarget k g w → Reaches b g
       → Going m g (trap_got s p (Object k) h m trap)
@@ -426,9 +425,10 @@ row-owes s v n k p m t u handler shape b at e owner target formed fit =
 -- an entry more changes no object
 noted-owes : (p k began s : ℕ) (o : Val) (m : Method) (b : Graph) (q : Outcome) (g : Graph) → Along (answering p k m) b g → Owes p k m b q g
     → Along (answering p k m) b (method_noted began s o m q g) × Owes p k m b q (method_noted began s o m q g)
-noted-owes p k began s o m b q g along owes =
-    (along-log (answering p k m) b g (method_noted began s o m q g).log along,
-    record { moment = owes.moment; begun = owes.begun; ended = owes.ended; rules = owes.rules; passes = owes.passes })
+noted-owes p k began s o m b q g along owes = (
+  along-log (answering p k m) b g (method_noted began s o m q g).log along,
+  record { moment = owes.moment; begun = owes.begun; ended = owes.ended; rules = owes.rules; passes = owes.passes },
+)
 
 end-between : (p k : ℕ) (m : Method) (b : Graph) (x : Ends) → EndOwed (answering p k m) b x → EndBetween p k m b x
 end-between p k m b (Gives q g f) h = h.1

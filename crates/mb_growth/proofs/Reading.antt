@@ -246,9 +246,9 @@ task-known : (t : Task) (s : Graph) (f : ℕ) → TaskEnds (TaskKnown t s) (Mean
 task-known (Perform a m o v enters) s f =
     method-known a v m o enters s f (Means (Perform a m o v enters) s f)
     (λ k u e at no_proxy fit formed.
-        subst (λ (w : Val). EndPasses v k m u s (Means (Perform a m w v enters) s f)
-            × TaskEnds (ReadSo m v u s) (Means (Perform a m w v enters) s f)) (sym e)
-        (ordinary-entries-pass a v k m enters u s f at no_proxy fit formed, means-reads a v k m enters u s f at no_proxy))
+    subst (λ (w : Val). EndPasses v k m u s (Means (Perform a m w v enters) s f)
+    × TaskEnds (ReadSo m v u s) (Means (Perform a m w v enters) s f)) (sym e)
+    (ordinary-entries-pass a v k m enters u s f at no_proxy fit formed, means-reads a v k m enters u s f at no_proxy))
 task-known (Evaluate a b c d) s f = any-known (Means (Evaluate a b c d) s f)
 task-known (Loop a b c d) s f = any-known (Means (Loop a b c d) s f)
 task-known (Chain a b c) s f = any-known (Means (Chain a b c) s f)

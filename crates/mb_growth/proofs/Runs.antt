@@ -28,9 +28,10 @@ recast-moves : (t : Thing) (k : Kind) → IsFormed t → target_is_array t.kind 
     → is_proxy_kind t.kind ≡ is_proxy_kind k → Moves t (record t { kind = k })
 recast-moves t k formed same proxy =
     let array : is_array t.kind ≡ is_array k = same-array t.kind ∙ same ∙ sym (same-array k) in
-    let stays = later-refl t in
-    (record { distinct = formed.distinct; array = λ a. formed.array (array ∙ a) },
-    record { owner = refl; label = refl; array = array; proxy = proxy; evolves = stays.evolves })
+    let stays = later-refl t in (
+      record { distinct = formed.distinct; array = λ a. formed.array (array ∙ a) },
+      record { owner = refl; label = refl; array = array; proxy = proxy; evolves = stays.evolves },
+    )
 
 -- each change that a row makes of an object
 change-moves : (g : Graph) (t u : Thing) → IsFormed t → Change (Unit {0}) g t u → Moves t u

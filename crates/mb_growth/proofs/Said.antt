@@ -143,7 +143,7 @@ get-ends s v g t k r = by (shown_property g v t k) refl
     called f h e c at false def =
         ends-any (λ q after. EntryPasses (Get k r) q (Shown g v t))
         (λ q after. all (Some (Accessor f h e c)) at
-            (λ y none. absurd (let bad : true ≡ false = sym (ap is_undefined none) ∙ def in cc)) q)
+        (λ y none. absurd (let bad : true ≡ false = sym (ap is_undefined none) ∙ def in cc)) q)
         (call_getter s r f finished g)
 
     by : (o : Option (Full Val)) → shown_property g v t k ≡ o
@@ -164,7 +164,7 @@ set-ends s v g t k x r = by (shown_property g v t k) refl
     all o e sets p =
         ends-any (λ q after. EntryPasses (Set k x r) q (Shown g v t))
         (λ q after. set-passes k x (Shown g v t)
-            (subst (λ (y : Option (Full Val)). Sets Undefined y) (sym (seen-at g v t k ∙ e)) sets) (said_outcome q)) p
+        (subst (λ (y : Option (Full Val)). Sets Undefined y) (sym (seen-at g v t k ∙ e)) sets) (said_outcome q)) p
 
     called : (f h : Val) (i c : Bool) → shown_property g v t k ≡ Some (Accessor f h i c) → (b : Bool) → is_undefined h ≡ b
         → RowEnds (λ q after. EntryPasses (Set k x r) q (Shown g v t))

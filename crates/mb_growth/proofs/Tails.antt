@@ -54,10 +54,13 @@ passed kept b g Continue k p h = (p, kept.ended b g Continue tt p.1)
 -- what is known of a task is known of its answer
 pub gets-answer : (kept : Kept) (g : Graph) (t : Task) → Fits t g
     → Gets kept (λ a h. kept.known t g (Normal a) h) g (answer t)
-gets-answer kept g t fit k b p h =
-    (p, λ c. fit, λ o s q known.
-        passed kept b s o k (along-on kept b g s p q)
-        (λ a e. h a s q (subst (λ (x : Outcome). kept.known t g x s) e known)))
+gets-answer kept g t fit k b p h = (
+  p,
+  λ c. fit,
+  λ o s q known.
+      passed kept b s o k (along-on kept b g s p q)
+      (λ a e. h a s q (subst (λ (x : Outcome). kept.known t g x s) e known)),
+)
 
 -- ---- the target, as a method's checks read it
 
@@ -86,8 +89,8 @@ pub frozen-owes : (p k : ℕ) (m : Method) (b s g : Graph) (u : Thing) (a : Answ
 frozen-owes p k m b s g u a t f h pass =
     owes-now p k m b g (Normal a) h
     (λ w at.
-        subst (λ (x : Thing). EntryPasses m (Normal a) (Shown g p x)) (same_Some u w (sym (still-there k s g u t f) ∙ at))
-        (subst (λ (rs : List Rule). EntryPasses m (Normal a) (Shown (record s { rules = rs }) p u)) (sym f.1) pass))
+    subst (λ (x : Thing). EntryPasses m (Normal a) (Shown g p x)) (same_Some u w (sym (still-there k s g u t f) ∙ at))
+    (subst (λ (rs : List Rule). EntryPasses m (Normal a) (Shown (record s { rules = rs }) p u)) (sym f.1) pass))
 
 pub shown-frozen : (p : ℕ) (s g : Graph) (u : Thing) (i : PropertyKey) → Frozen s g → shown_property g p u i ≡ shown_property s p u i
 shown-frozen p s g u i f = ap (λ (rs : List Rule). shown_property (record s { rules = rs }) p u i) f.1
@@ -103,9 +106,9 @@ module _ (p k : ℕ) (m : Method) (b : Graph) where
       (λ e h. (e ≡ u.extensible) × Frozen s h) g (answer (perform p IsExtensible (Object k))) (λ a. give (flag_in a))
       (gets-answer (answering p k m) g (perform p IsExtensible (Object k)) tt)
       (λ a h q known.
-          let r = (known k u refl (still-there k s g u t f) t.1 tt reach.0.0).1 a refl in
-          gets-give (answering p k m) (λ e i. (e ≡ u.extensible) × Frozen s i) h (flag_in a)
-          (ap flag_in r.0, frozen-on s g h f (r.1, r.2)))
+      let r = (known k u refl (still-there k s g u t f) t.1 tt reach.0.0).1 a refl in
+      gets-give (answering p k m) (λ e i. (e ≡ u.extensible) × Frozen s i) h (flag_in a)
+      (ap flag_in r.0, frozen-on s g h f (r.1, r.2)))
 
   pub gets-own : (s g : Graph) (u : Thing) (i : PropertyKey) → IsTarget k s u → Frozen s g → Reaches b g
       → Gets (answering p k m) (λ x h. (x ≡ shown_property s p u i) × Frozen s h) g (read_own p (Object k) i)
@@ -114,9 +117,9 @@ module _ (p k : ℕ) (m : Method) (b : Graph) where
       (λ x h. (x ≡ shown_property s p u i) × Frozen s h) g (answer (perform p (GetOwnProperty i) (Object k))) (λ a. give (property_in a))
       (gets-answer (answering p k m) g (perform p (GetOwnProperty i) (Object k)) tt)
       (λ a h q known.
-          let r = (known k u refl (still-there k s g u t f) t.1 tt reach.0.0).1 a refl in
-          gets-give (answering p k m) (λ x j. (x ≡ shown_property s p u i) × Frozen s j) h (property_in a)
-          (ap property_in r.0 ∙ shown-frozen p s g u i f, frozen-on s g h f (r.1, r.2)))
+      let r = (known k u refl (still-there k s g u t f) t.1 tt reach.0.0).1 a refl in
+      gets-give (answering p k m) (λ x j. (x ≡ shown_property s p u i) × Frozen s j) h (property_in a)
+      (ap property_in r.0 ∙ shown-frozen p s g u i f, frozen-on s g h f (r.1, r.2)))
 
   pub gets-above : (s g : Graph) (u : Thing) → IsTarget k s u → Frozen s g → Reaches b g
       → Gets (answering p k m) (λ x h. (x ≡ u.prototype) × Frozen s h) g
@@ -126,9 +129,9 @@ module _ (p k : ℕ) (m : Method) (b : Graph) where
       (λ x h. (x ≡ u.prototype) × Frozen s h) g (answer (perform p GetPrototypeOf (Object k))) (λ a. give (value_in a))
       (gets-answer (answering p k m) g (perform p GetPrototypeOf (Object k)) tt)
       (λ a h q known.
-          let r = (known k u refl (still-there k s g u t f) t.1 tt reach.0.0).1 a refl in
-          gets-give (answering p k m) (λ x i. (x ≡ u.prototype) × Frozen s i) h (value_in a)
-          (ap value_in r.0, frozen-on s g h f (r.1, r.2)))
+      let r = (known k u refl (still-there k s g u t f) t.1 tt reach.0.0).1 a refl in
+      gets-give (answering p k m) (λ x i. (x ≡ u.prototype) × Frozen s i) h (value_in a)
+      (ap value_in r.0, frozen-on s g h f (r.1, r.2)))
 
   pub gets-listed : (s g : Graph) (u : Thing) → IsTarget k s u → Frozen s g → Reaches b g
       → Gets (answering p k m) (λ ks h. (ks ≡ shown_keys s p u) × Frozen s h) g
@@ -138,9 +141,9 @@ module _ (p k : ℕ) (m : Method) (b : Graph) where
       (λ ks h. (ks ≡ shown_keys s p u) × Frozen s h) g (answer (perform p OwnPropertyKeys (Object k))) (λ a. give (keys_in a))
       (gets-answer (answering p k m) g (perform p OwnPropertyKeys (Object k)) tt)
       (λ a h q known.
-          let r = (known k u refl (still-there k s g u t f) t.1 tt reach.0.0).1 a refl in
-          gets-give (answering p k m) (λ ks i. (ks ≡ shown_keys s p u) × Frozen s i) h (keys_in a)
-          (ap keys_in r.0 ∙ keys-frozen p s g u f, frozen-on s g h f (r.1, r.2)))
+      let r = (known k u refl (still-there k s g u t f) t.1 tt reach.0.0).1 a refl in
+      gets-give (answering p k m) (λ ks i. (ks ≡ shown_keys s p u) × Frozen s i) h (keys_in a)
+      (ap keys_in r.0 ∙ keys-frozen p s g u f, frozen-on s g h f (r.1, r.2)))
 
   -- an answer that stands, unless a rule is broken
   pub gets-judged : (g : Graph) (verdict : Verdict) (a : Answer) → (is_pass verdict ≡ true → Owed p k m b a g)
@@ -169,19 +172,19 @@ module _ (p k : ℕ) (m : Method) (b : Graph) where
       by None h e f there =
           gets-judged h (verdict None true) a
           (λ pass. frozen-owes p k m b g h u a t f there
-              (lacking (λ y at. absurd (let bad : None ≡ Some y = e ∙ sym (seen-at g p u i) ∙ at in cc))))
+          (lacking (λ y at. absurd (let bad : None ≡ Some y = e ∙ sym (seen-at g p u i) ∙ at in cc))))
       by (Some real) h e f there =
           gets-judged_then h (verdict (Some real) true) a
           (λ _. read_extensible p (Object k) >>= (λ x. judge p (verdict (Some real) x) a))
           (gets-bind (answering p k m) (λ x j. (x ≡ u.extensible) × Frozen g j) (Owed p k m b) h (read_extensible p (Object k))
           (λ x. judge p (verdict (Some real) x) a) (gets-extensible g h u t f there)
           (λ x j q r.
-              gets-judged j (verdict (Some real) x) a
-              (λ pass. frozen-owes p k m b g j u a t r.1 (reaches-on b h j there q.1)
-                  (lacking (λ y at.
-                      let same : Some real ≡ Some y = e ∙ sym (seen-at g p u i) ∙ at in
-                      let both = tells (Some real) x pass y same in
-                      (both.0, sym r.0 ∙ both.1))))))
+          gets-judged j (verdict (Some real) x) a
+          (λ pass. frozen-owes p k m b g j u a t r.1 (reaches-on b h j there q.1)
+          (lacking (λ y at.
+          let same : Some real ≡ Some y = e ∙ sym (seen-at g p u i) ∙ at in
+          let both = tells (Some real) x pass y same in
+          (both.0, sym r.0 ∙ both.1))))))
 
 same-tells : (n : ℕ) (said real : Val) → is_pass (same_prototype same_value n said (Some real)) ≡ true → said ≡ real
 same-tells n said real h =
@@ -204,15 +207,15 @@ module _ (p k : ℕ) (b g : Graph) (u : Thing) (t : IsTarget k g u) (reach : Rea
       by true h e f there =
           gets-judged p k GetPrototypeOf b h (rule.get_prototype said None) (Value said)
           (λ pass. frozen-owes p k GetPrototypeOf b g h u (Value said) t f there
-              (λ closed. absurd (let bad : true ≡ false = e ∙ closed in cc)))
+          (λ closed. absurd (let bad : true ≡ false = e ∙ closed in cc)))
       by false h e f there =
           gets-bind (answering p k GetPrototypeOf) (λ x i. (x ≡ u.prototype) × Frozen g i) (Owed p k GetPrototypeOf b) h
           (answer (perform p GetPrototypeOf (Object k)) >>= (λ a. give (value_in a)))
           (λ real. judge p (rule.get_prototype said (Some real)) (Value said)) (gets-above p k GetPrototypeOf b g h u t f there)
           (λ real i q r.
-              gets-judged p k GetPrototypeOf b i (rule.get_prototype said (Some real)) (Value said)
-              (λ pass. frozen-owes p k GetPrototypeOf b g i u (Value said) t r.1 (reaches-on b h i there q.1)
-                  (λ closed. same-tells 2 said real pass ∙ r.0)))
+          gets-judged p k GetPrototypeOf b i (rule.get_prototype said (Some real)) (Value said)
+          (λ pass. frozen-owes p k GetPrototypeOf b g i u (Value said) t r.1 (reaches-on b h i there q.1)
+          (λ closed. same-tells 2 said real pass ∙ r.0)))
 
   pub gets-set_prototype_said : (given : Val) (said : Bool)
       → Gets (answering p k (SetPrototypeOf given)) (Owed p k (SetPrototypeOf given) b) g (set_prototype_said p (Object k) given said)
@@ -230,15 +233,15 @@ module _ (p k : ℕ) (b g : Graph) (u : Thing) (t : IsTarget k g u) (reach : Rea
       by true h e f there =
           gets-judged p k (SetPrototypeOf given) b h (rule.set_prototype given None) (Flag true)
           (λ pass. frozen-owes p k (SetPrototypeOf given) b g h u (Flag true) t f there
-              (λ closed. absurd (let bad : true ≡ false = e ∙ closed in cc)))
+          (λ closed. absurd (let bad : true ≡ false = e ∙ closed in cc)))
       by false h e f there =
           gets-bind (answering p k (SetPrototypeOf given)) (λ x i. (x ≡ u.prototype) × Frozen g i) (Owed p k (SetPrototypeOf given) b) h
           (answer (perform p GetPrototypeOf (Object k)) >>= (λ a. give (value_in a)))
           (λ real. judge p (rule.set_prototype given (Some real)) (Flag true)) (gets-above p k (SetPrototypeOf given) b g h u t f there)
           (λ real i q r.
-              gets-judged p k (SetPrototypeOf given) b i (rule.set_prototype given (Some real)) (Flag true)
-              (λ pass. frozen-owes p k (SetPrototypeOf given) b g i u (Flag true) t r.1 (reaches-on b h i there q.1)
-                  (λ closed. same-tells 3 given real pass ∙ r.0)))
+          gets-judged p k (SetPrototypeOf given) b i (rule.set_prototype given (Some real)) (Flag true)
+          (λ pass. frozen-owes p k (SetPrototypeOf given) b g i u (Flag true) t r.1 (reaches-on b h i there q.1)
+          (λ closed. same-tells 3 given real pass ∙ r.0)))
 
   pub gets-extensible_said : (said : Bool) → Gets (answering p k IsExtensible) (Owed p k IsExtensible b) g (extensible_said p (Object k) said)
   gets-extensible_said said =
@@ -246,8 +249,8 @@ module _ (p k : ℕ) (b g : Graph) (u : Thing) (t : IsTarget k g u) (reach : Rea
       (read_extensible p (Object k)) (λ e. judge p (rule.is_extensible said e) (Flag said))
       (gets-extensible p k IsExtensible b g g u t (refl, refl) reach)
       (λ e h q r.
-          gets-judged p k IsExtensible b h (rule.is_extensible said e) (Flag said)
-          (λ pass. frozen-owes p k IsExtensible b g h u (Flag said) t r.1 (reaches-on b g h reach q.1) (extensible-tells said e pass ∙ r.0)))
+      gets-judged p k IsExtensible b h (rule.is_extensible said e) (Flag said)
+      (λ pass. frozen-owes p k IsExtensible b g h u (Flag said) t r.1 (reaches-on b g h reach q.1) (extensible-tells said e pass ∙ r.0)))
 
   pub gets-prevent_said : (said : Bool) → Gets (answering p k PreventExtensions) (Owed p k PreventExtensions b) g (prevent_said p (Object k) said)
   gets-prevent_said false =
@@ -258,8 +261,8 @@ module _ (p k : ℕ) (b g : Graph) (u : Thing) (t : IsTarget k g u) (reach : Rea
       (read_extensible p (Object k)) (λ e. judge p (rule.prevent_extensions e) (Flag true))
       (gets-extensible p k PreventExtensions b g g u t (refl, refl) reach)
       (λ e h q r.
-          gets-judged p k PreventExtensions b h (rule.prevent_extensions e) (Flag true)
-          (λ pass. frozen-owes p k PreventExtensions b g h u (Flag true) t r.1 (reaches-on b g h reach q.1) (sym r.0 ∙ prevent-tells e pass)))
+      gets-judged p k PreventExtensions b h (rule.prevent_extensions e) (Flag true)
+      (λ pass. frozen-owes p k PreventExtensions b g h u (Flag true) t r.1 (reaches-on b g h reach q.1) (sym r.0 ∙ prevent-tells e pass)))
 
   pub gets-own_said_absent : (i : PropertyKey)
       → Gets (answering p k (GetOwnProperty i)) (Owed p k (GetOwnProperty i) b) g (absent_said p (Object k) i rule.own_absent (Prop None))

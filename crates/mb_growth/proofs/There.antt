@@ -61,10 +61,11 @@ there-ordinary t k d one = there-as t k d one (validated t k d) refl
 there-element_as : (t : Thing) (k : PropertyKey) (d : Desc Val) (i : ℕ) (n : ℕ × Bool) → IsOfOneKind d
     → same_key k length_key ≡ false → (o : Option (Full Val)) → validated t k d ≡ o → IsThere k d (element_as t k i n o)
 there-element_as t k d i n one other None e = tt
-there-element_as t k d i n one other (Some p) e =
-    (p,
-    own-other (with_property k p t) length_key (Datum (Whole (pos (max n.0 (i + 1)))) n.1 false false) k other ∙ own-same t k p,
-    accepted_again same_value Undefined value-refl t.extensible (own_property k t) d p one e)
+there-element_as t k d i n one other (Some p) e = (
+  p,
+  own-other (with_property k p t) length_key (Datum (Whole (pos (max n.0 (i + 1)))) n.1 false false) k other ∙ own-same t k p,
+  accepted_again same_value Undefined value-refl t.extensible (own_property k t) d p one e,
+)
 
 there-element : (t : Thing) (k : PropertyKey) (d : Desc Val) (i : ℕ) (n : ℕ × Bool) → IsOfOneKind d
     → same_key k length_key ≡ false → IsThere k d (element_defined t k d i n)
@@ -180,11 +181,12 @@ there-cut t d n p w has writable one value accepted e true whole =
     let long : (shrunk n t).length ≡ n =
     whole-length (reverse (indices_from n (indices (property_keys t.properties)))) n t.properties whole in
     let same : Datum (Whole (pos (shrunk n t).length)) w false false ≡ put_length (Whole (pos n)) p d =
-    ap (λ (m : ℕ). Datum (Whole (pos m)) w false false) long ∙ ap (λ (z : Bool). Datum (Whole (pos n)) z false false) e in
-    (put_length (Whole (pos n)) p d,
-    own-same (record t { properties = (shrunk n t).left }) length_key (Datum (Whole (pos (shrunk n t).length)) w false false)
-    ∙ ap Some same,
-    again)
+    ap (λ (m : ℕ). Datum (Whole (pos m)) w false false) long ∙ ap (λ (z : Bool). Datum (Whole (pos n)) z false false) e in (
+      put_length (Whole (pos n)) p d,
+      own-same (record t { properties = (shrunk n t).left }) length_key (Datum (Whole (pos (shrunk n t).length)) w false false)
+          ∙ ap Some same,
+      again,
+    )
 
 there-length_as : (t : Thing) (d : Desc Val) (n : ℕ) → HasLength t → (array_length t).1 ≡ true
     → IsOfOneKind d → d.value ≡ Some (Whole (pos n)) → (o : Option (Full Val))

@@ -3,4 +3,7 @@
 
 mod laws;
 
-pub use laws::{a_side_sees_it_evolve, checks_tell, objects_evolve, objects_move, ordinary_entries_pass, proxy_entries_pass, runs_evolve, tasks_evolve, tasks_must_fit};
+pub use laws::{
+    a_side_sees_it_evolve, checks_tell, objects_evolve, objects_move, ordinary_entries_pass,
+    proxy_entries_pass, runs_evolve, tasks_evolve, tasks_must_fit,
+};

@@ -29,7 +29,7 @@ keeps-need_constructor kept s f = keeps->>= kept (look (λ g. is_constructor g f
     (keeps-look kept (λ g. is_constructor g f)) (λ c. keeps-unless_type_error kept s c)
 
 pub keeps-undefined : (kept : Kept) → Goes kept (undefined)
-keeps-undefined kept  = keeps-give kept (Value Undefined)
+keeps-undefined kept = keeps-give kept (Value Undefined)
 
 pub keeps-asked_prototype : (kept : Kept) (x0 : ℕ) (x1 : Val) (x2 : Val) → Goes kept (asked_prototype x0 x1 x2)
 keeps-asked_prototype kept s default target = keeps->>= kept (get s target (Named (codes "prototype"))) (λ p. give

@@ -26,11 +26,11 @@ keeps-reading kept s vs f pf =
     keeps->>= kept (need_object s (arg vs 0)) (λ _. key_arg s vs 1 >>= (λ k. todesc s (arg vs 2) >>= (λ d. f k d)))
     (keeps-need_object kept s (arg vs 0))
     (λ _. keeps->>= kept (key_arg s vs 1) (λ k. todesc s (arg vs 2) >>= (λ d. f k d)) (keeps-key_arg kept s vs 1)
-        (λ k. record {
-          goes = λ g.
-              gets-then kept (λ d g'. IsOfOneKind d) g (todesc s (arg vs 2)) (λ d. f k d) (gets-todesc kept g s (arg vs 2))
-              (λ d g' q one. (pf k d (λ c. one)).goes g');
-        }))
+    (λ k. record {
+      goes = λ g.
+          gets-then kept (λ d g'. IsOfOneKind d) g (todesc s (arg vs 2)) (λ d. f k d) (gets-todesc kept g s (arg vs 2))
+          (λ d g' q one. (pf k d (λ c. one)).goes g');
+    }))
 
 keeps-object_define : (kept : Kept) (s : ℕ) (o : Val) (k : PropertyKey) (d : Desc Val) →
     (kept.cares → IsOfOneKind d) → Goes kept (object_define s o k d)

@@ -30,8 +30,8 @@ gets-todesc_from kept g s x (f ∷ fs) d =
     (λ there. field_found s x d f there >>= (λ e. todesc_from s x fs e))
     ((keeps-flag kept (perform s (HasProperty (field_key f)) x) (λ _ _. tt)).goes g)
     (λ there g' q.
-        gets-after kept OneKind g' (field_found s x d f there) (λ e. todesc_from s x fs e)
-        ((keeps-field_found kept s x d f there).goes g') (λ e g'' q'. gets-todesc_from kept g'' s x fs e))
+    gets-after kept OneKind g' (field_found s x d f there) (λ e. todesc_from s x fs e)
+    ((keeps-field_found kept s x d f there).goes g') (λ e g'' q'. gets-todesc_from kept g'' s x fs e))
 
 pub gets-todesc : (kept : Kept) (g : Graph) (s : ℕ) (x : Val) → Gets kept OneKind g (todesc s x)
 gets-todesc kept g s x =

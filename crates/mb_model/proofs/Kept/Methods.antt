@@ -72,8 +72,8 @@ at-set_prototype : (kept : Kept) (g : Graph) (o : Val) (t : Thing) (p : Val) →
 at-set_prototype kept g o t p at =
     at-walk_unless kept g o p (prototype_answered t p)
     (λ e c u there.
-        let same : t ≡ u = same_Some t u (sym at ∙ there) in
-        ap (λ x. x.extensible) (sym same) ∙ not-answered (same_value p t.prototype) t.extensible e)
+    let same : t ≡ u = same_Some t u (sym at ∙ there) in
+    ap (λ x. x.extensible) (sym same) ∙ not-answered (same_value p t.prototype) t.extensible e)
 
 -- ---- one method
 

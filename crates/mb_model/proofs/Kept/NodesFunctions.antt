@@ -45,18 +45,34 @@ pub keeps-enter_parts : (kept : Kept) (x0 : Code) (x1 : Val) (x2 : List Val) (x3
     : FunctionParts) → Goes kept (enter_parts x0 x1 x2 x3 x4 x5)
 keeps-enter_parts kept k this vs block own parts = keeps->>= kept (look (λ g. bound_names g k.side k.node)) (λ xs.
     (enter_names k.side k.scope (entered_names own xs)) >>= (λ sc. (bind_params sc parts.params vs) >>= (λ _.
-    (declare k.side sc (if block then parts.body else [])) >>= (λ _. body_or_value (record { side = k.side; scope =
-    sc; this = this_of k.bound_this this }) block parts.body)))) (keeps-look kept (λ g. bound_names g k.side
+    (declare k.side sc (if block then parts.body else [])) >>= (λ _. body_or_value (record {
+      side = k.side;
+      scope =
+          sc;
+      this = this_of k.bound_this this;
+    }) block parts.body)))) (keeps-look kept (λ g. bound_names g k.side
     k.node)) (λ xs. keeps->>= kept (enter_names k.side k.scope (entered_names own xs)) (λ sc. (bind_params sc
     parts.params vs) >>= (λ _. (declare k.side sc (if block then parts.body else [])) >>= (λ _. body_or_value
     (record { side = k.side; scope = sc; this = this_of k.bound_this this }) block parts.body))) (keeps-enter_names
     kept k.side k.scope (entered_names own xs)) (λ sc. keeps->>= kept (bind_params sc parts.params vs) (λ _.
-    (declare k.side sc (if block then parts.body else [])) >>= (λ _. body_or_value (record { side = k.side; scope =
-    sc; this = this_of k.bound_this this }) block parts.body)) (keeps-bind_params kept sc parts.params vs) (λ _.
-    keeps->>= kept (declare k.side sc (if block then parts.body else [])) (λ _. body_or_value (record { side =
-    k.side; scope = sc; this = this_of k.bound_this this }) block parts.body) (keeps-declare kept k.side sc (if
-    block then parts.body else [])) (λ _. keeps-body_or_value kept (record { side = k.side; scope = sc; this =
-    this_of k.bound_this this }) block parts.body))))
+    (declare k.side sc (if block then parts.body else [])) >>= (λ _. body_or_value (record {
+      side = k.side;
+      scope =
+          sc;
+      this = this_of k.bound_this this;
+    }) block parts.body)) (keeps-bind_params kept sc parts.params vs) (λ _.
+    keeps->>= kept (declare k.side sc (if block then parts.body else [])) (λ _. body_or_value (record {
+      side =
+          k.side;
+      scope = sc;
+      this = this_of k.bound_this this;
+    }) block parts.body) (keeps-declare kept k.side sc (if
+    block then parts.body else [])) (λ _. keeps-body_or_value kept (record {
+      side = k.side;
+      scope = sc;
+      this =
+          this_of k.bound_this this;
+    }) block parts.body))))
 
 pub keeps-enter_form : (kept : Kept) (x0 : Code) (x1 : Val) (x2 : List Val) (x3 : Option Form) → Goes kept
     (enter_form x0 x1 x2 x3)

@@ -177,8 +177,10 @@ keeps-keys_parted kept p t said extensible (k ∷ ks) x = keeps->>= kept (read_o
 
 pub keeps-keys_read : (kept : Kept) (x0 : ℕ) (x1 : Val) (x2 : List PropertyKey) (x3 : Bool) (x4 : List PropertyKey)
     → Goes kept (keys_read x0 x1 x2 x3 x4)
-keeps-keys_read kept p t said extensible ks = keeps-keys_parted kept p t said extensible ks (record { fixed = [];
-    loose = [] })
+keeps-keys_read kept p t said extensible ks = keeps-keys_parted kept p t said extensible ks (record {
+  fixed = [];
+  loose = [];
+})
 
 pub keeps-keys_extensible : (kept : Kept) (x0 : ℕ) (x1 : Val) (x2 : List PropertyKey) (x3 : Bool) → Goes kept
     (keys_extensible x0 x1 x2 x3)

@@ -57,9 +57,9 @@ at-elements kept g c a i (n ∷ ns) array =
     at-array kept g a (eval c n) (λ v. store_element c.side a i v >>= (λ _. elements c a (i + 1) ns)) array
     (keeps-eval kept c n)
     (λ v h stays.
-        at-then kept h (store_element c.side a i v) (λ _. elements c a (i + 1) ns)
-        (at-store_element kept h c.side a i v stays)
-        (λ _ h' q. at-elements kept h' c a (i + 1) ns (q.0 a stays)))
+    at-then kept h (store_element c.side a i v) (λ _. elements c a (i + 1) ns)
+    (at-store_element kept h c.side a i v stays)
+    (λ _ h' q. at-elements kept h' c a (i + 1) ns (q.0 a stays)))
 
 pub keeps-array_literal : (kept : Kept) (c : Context) (ns : List ℕ) →
     Goes kept (make_array c.side [] >>= (λ a. elements c a 0 ns))
@@ -86,9 +86,9 @@ at-map_each kept g s o f this a (suc n) i array =
     at-array kept g a (each_turn s o i) (λ v. map_found s o f this a i v >>= (λ _. map_each s o f this a n (i + 1))) array
     (keeps-each_turn kept s o i)
     (λ v h stays.
-        at-then kept h (map_found s o f this a i v) (λ _. map_each s o f this a n (i + 1))
-        (at-map_found kept h s o f this a i v stays)
-        (λ _ h' q. at-map_each kept h' s o f this a n (i + 1) (q.0 a stays)))
+    at-then kept h (map_found s o f this a i v) (λ _. map_each s o f this a n (i + 1))
+    (at-map_found kept h s o f this a i v stays)
+    (λ _ h' q. at-map_each kept h' s o f this a n (i + 1) (q.0 a stays)))
 
 pub keeps-map_row : (kept : Kept) (s : ℕ) (o : Val) (vs : List Val) → Goes kept (map_row s o vs)
 keeps-map_row kept s o vs =
@@ -96,12 +96,12 @@ keeps-map_row kept s o vs =
     keeps->>= kept (array_start s o) (λ n. need_callable s (arg vs 0) >>= (λ _. fresh_array s n >>= into n))
     (keeps-array_start kept s o)
     (λ n. keeps->>= kept (need_callable s (arg vs 0)) (λ _. fresh_array s n >>= into n)
-        (keeps-need_callable kept s (arg vs 0))
-        (λ _. record {
-          goes = λ g.
-              gets-then kept GivesArray g (fresh_array s n) (into n) (gets-fresh kept g s n)
-              (λ a h q array. at-map_each kept h s o (arg vs 0) (arg vs 1) a n 0 array);
-        }))
+    (keeps-need_callable kept s (arg vs 0))
+    (λ _. record {
+      goes = λ g.
+          gets-then kept GivesArray g (fresh_array s n) (into n) (gets-fresh kept g s n)
+          (λ a h q array. at-map_each kept h s o (arg vs 0) (arg vs 1) a n 0 array);
+    }))
 
 -- ---- filter
 
@@ -131,9 +131,9 @@ at-filter_each kept g s o f this a (suc n) i count array =
     (λ v. filter_found s o f this a i count v >>= (λ c. filter_each s o f this a n (i + 1) c)) array
     (keeps-each_turn kept s o i)
     (λ v h stays.
-        at-then kept h (filter_found s o f this a i count v) (λ c. filter_each s o f this a n (i + 1) c)
-        (at-filter_found kept h s o f this a i count v stays)
-        (λ c h' q. at-filter_each kept h' s o f this a n (i + 1) c (q.0 a stays)))
+    at-then kept h (filter_found s o f this a i count v) (λ c. filter_each s o f this a n (i + 1) c)
+    (at-filter_found kept h s o f this a i count v stays)
+    (λ c h' q. at-filter_each kept h' s o f this a n (i + 1) c (q.0 a stays)))
 
 pub keeps-filter_row : (kept : Kept) (s : ℕ) (o : Val) (vs : List Val) → Goes kept (filter_row s o vs)
 keeps-filter_row kept s o vs =
@@ -141,12 +141,12 @@ keeps-filter_row kept s o vs =
     keeps->>= kept (array_start s o) (λ n. need_callable s (arg vs 0) >>= (λ _. fresh_array s 0 >>= into n))
     (keeps-array_start kept s o)
     (λ n. keeps->>= kept (need_callable s (arg vs 0)) (λ _. fresh_array s 0 >>= into n)
-        (keeps-need_callable kept s (arg vs 0))
-        (λ _. record {
-          goes = λ g.
-              gets-then kept GivesArray g (fresh_array s 0) (into n) (gets-fresh kept g s 0)
-              (λ a h q array. at-filter_each kept h s o (arg vs 0) (arg vs 1) a n 0 0 array);
-        }))
+    (keeps-need_callable kept s (arg vs 0))
+    (λ _. record {
+      goes = λ g.
+          gets-then kept GivesArray g (fresh_array s 0) (into n) (gets-fresh kept g s 0)
+          (λ a h q array. at-filter_each kept h s o (arg vs 0) (arg vs 1) a n 0 0 array);
+    }))
 
 -- ---- slice
 
@@ -162,9 +162,9 @@ at-slice_each kept g s o a (suc n) from i array =
     at-array kept g a (each_turn s o (from + i)) (λ v. slice_found s a i v >>= (λ _. slice_each s o a n from (i + 1))) array
     (keeps-each_turn kept s o (from + i))
     (λ v h stays.
-        at-then kept h (slice_found s a i v) (λ _. slice_each s o a n from (i + 1))
-        (at-slice_found kept h s a i v stays)
-        (λ _ h' q. at-slice_each kept h' s o a n from (i + 1) (q.0 a stays)))
+    at-then kept h (slice_found s a i v) (λ _. slice_each s o a n from (i + 1))
+    (at-slice_found kept h s a i v stays)
+    (λ _ h' q. at-slice_each kept h' s o a n from (i + 1) (q.0 a stays)))
 
 pub keeps-slice : (kept : Kept) (s : ℕ) (o : Val) (vs : List Val) → Goes kept (slice s o vs)
 keeps-slice kept s o vs =
@@ -173,12 +173,12 @@ keeps-slice kept s o vs =
     (λ n. index_arg s 0 n (arg vs 0) >>= (λ from. index_arg s n n (arg vs 1) >>= (λ to. fresh_array s (to - from) >>= into from to)))
     (keeps-array_start kept s o)
     (λ n. keeps->>= kept (index_arg s 0 n (arg vs 0))
-        (λ from. index_arg s n n (arg vs 1) >>= (λ to. fresh_array s (to - from) >>= into from to))
-        (keeps-index_arg kept s 0 n (arg vs 0))
-        (λ from. keeps->>= kept (index_arg s n n (arg vs 1)) (λ to. fresh_array s (to - from) >>= into from to)
-            (keeps-index_arg kept s n n (arg vs 1))
-            (λ to. record {
-              goes = λ g.
-                  gets-then kept GivesArray g (fresh_array s (to - from)) (into from to) (gets-fresh kept g s (to - from))
-                  (λ a h q array. at-slice_each kept h s o a (to - from) from 0 array);
-            })))
+    (λ from. index_arg s n n (arg vs 1) >>= (λ to. fresh_array s (to - from) >>= into from to))
+    (keeps-index_arg kept s 0 n (arg vs 0))
+    (λ from. keeps->>= kept (index_arg s n n (arg vs 1)) (λ to. fresh_array s (to - from) >>= into from to)
+    (keeps-index_arg kept s n n (arg vs 1))
+    (λ to. record {
+      goes = λ g.
+          gets-then kept GivesArray g (fresh_array s (to - from)) (into from to) (gets-fresh kept g s (to - from))
+          (λ a h q array. at-slice_each kept h s o a (to - from) from 0 array);
+    })))
