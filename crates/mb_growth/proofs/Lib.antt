@@ -16,4 +16,5 @@ pub mod Checked
 pub mod Needed
 pub mod Reading
 pub mod Tails
+pub mod Keyed
 pub mod Proxies

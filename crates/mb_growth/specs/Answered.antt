@@ -42,7 +42,8 @@ abbrev pub EndPasses : ℕ → ℕ → Method → Thing → Graph → Ends → T
 EndPasses v n m t before (Gives q after fuel) = PassesAtMoment v n m t before q after
 EndPasses v n m t before (Spent after fuel) = Unit {0}
 
--- a method of an object that is no script-made Proxy, done by side s with the view of v: its own where it makes an entry
+-- a method of an object that is no script-made Proxy, done by side s with the view of v, which is its own where it
+-- makes an entry
 abbrev pub OrdinaryEntriesPass : Type 0
 OrdinaryEntriesPass = (s v n : ℕ) (m : Method) (enters : Bool) (t : Thing) (graph : Graph) (fuel : ℕ)
     → slice_get graph.objects n ≡ Some t → is_proxy_kind t.kind ≡ false → FitsMethod m → AreFormed graph
@@ -63,8 +64,8 @@ EndBetween p n m before (Spent after fuel) = Unit {0}
 -- a method of a script-made Proxy passes against what the Proxy's owner sees of the target at some moment before it
 -- ends; no Proxy has a Proxy as its target
 abbrev pub ProxyEntriesPass : Type 0
-ProxyEntriesPass = (s v n k : ℕ) (m : Method) (enters : Bool) (t u : Thing) (handler : Val) (shape : Shape) (graph : Graph)
-    (fuel : ℕ) → slice_get graph.objects n ≡ Some t → t.kind ≡ Proxy (Object k) handler shape
+ProxyEntriesPass = (s v n k : ℕ) (m : Method) (enters : Bool) (t u : Thing) (handler : Val) (shape : Shape)
+    (graph : Graph) (fuel : ℕ) → slice_get graph.objects n ≡ Some t → t.kind ≡ Proxy (Object k) handler shape
     → slice_get graph.objects k ≡ Some u → is_proxy_kind u.kind ≡ false → FitsMethod m → AreFormed graph
     → EndBetween (owner_or s t.owner) k m graph (Means (Perform s m (Object n) v enters) graph fuel)
 

@@ -85,8 +85,8 @@ TasksEvolve = (task : Task) (graph : Graph) (fuel : ℕ) → Fits task graph →
 
 -- what each side sees of an object evolves with it along a task
 abbrev pub SidesSeeTasksEvolve : Type 0
-SidesSeeTasksEvolve = (task : Task) (graph : Graph) (fuel : ℕ) → Fits task graph → AreFormed graph → (v n : ℕ) (t : Thing)
-    → slice_get graph.objects n ≡ Some t
+SidesSeeTasksEvolve = (task : Task) (graph : Graph) (fuel : ℕ) → Fits task graph → AreFormed graph
+    → (v n : ℕ) (t : Thing) → slice_get graph.objects n ≡ Some t
     → (u : Thing) × (slice_get (state_of (Means task graph fuel)).objects n ≡ Some u)
     × Evolves same_key sort_of (shown (rule_of graph v t) (as_view t))
     (shown (rule_of (state_of (Means task graph fuel)) v u) (as_view u))

@@ -47,8 +47,8 @@ pub fn ordinary_entries_pass()
     ensures { OrdinaryEntriesPass }
 {}
 
-/// What the checks of a Proxy's traps let pass, with a view in the place of the target, passes against that view, whatever
-/// the entry; `has`, `get` and `set` apart.
+/// What the checks of a Proxy's traps let pass, with a view in the place of the target, passes against that view,
+/// whatever the entry; `has`, `get` and `set` apart.
 pub fn checks_tell()
     ensures { ChecksTell }
 {}
@@ -60,8 +60,9 @@ pub fn tasks_must_fit()
     ensures definitions { DefinitionsMustFit }
 {}
 
-/// What a method of a script-made Proxy answers passes the checks against what the Proxy's owner sees of the target at some
-/// moment from its begin to its end: as the checks read it, or, without a trap, at that of the target's method.
+/// What a method of a script-made Proxy answers passes the checks against what the Proxy's owner sees of the target at
+/// some moment from its begin to its end: as the checks read it, or, without a trap, at that of the target's method.
+/// The target is an object of a script.
 pub fn proxy_entries_pass()
     ensures { ProxyEntriesPass }
 {}
