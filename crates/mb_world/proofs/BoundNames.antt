@@ -30,7 +30,7 @@ placed-push names b places h n = h n ∙ sym (position-push (has_name n) names b
 pub placed-step : (names : List Bound) (i : ℕ) (b : Bound) (old new : List (StrId × ℕ)) → i < length names → b ≡ get_or names i b → length (take i names) ≡ i → ((n : StrId) → placed new n ≡ or_if (same_id n b.name) i (placed old n)) → ArePlaces (take i names) old → ArePlaces (take (i + 1) names) new
 placed-step names i b old new l e k f h n =
     rw (take_more names i b l, ← e)
-      (f n ∙ ap (or_if (same_id n b.name) i) (h n) ∙ ap (λ m. or_if (same_id n b.name) m (position (has_name n) (take i names))) (sym k) ∙ sym (position-push (has_name n) (take i names) b))
+    (f n ∙ ap (or_if (same_id n b.name) i) (h n) ∙ ap (λ m. or_if (same_id n b.name) m (position (has_name n) (take i names))) (sym k) ∙ sym (position-push (has_name n) (take i names) b))
 
 -- a value that is given moves no name
 pub placed-give : (names : List Bound) (place : ℕ) (x : Value) (places : List (StrId × ℕ)) → IsPlaced names places → IsPlaced (give_at place x names) places

@@ -107,9 +107,9 @@ OfEntry = (d : Data) (e : Entry) → OfNoted d e
 -- how many sides take part: the queues and scripts are theirs
 abbrev pub OfSides : Type 0
 OfSides = (d : Data) (n : ℕ) → Becomes d (record d { sides = n }) (λ g. record g {
-    queues = map (map (job_in (names_of d))) (take n d.queues);
-    programs = map (program_in d.texts) (take n d.programs);
-  })
+  queues = map (map (job_in (names_of d))) (take n d.queues);
+  programs = map (program_in d.texts) (take n d.programs);
+})
 
 -- a fresh world takes texts
 abbrev pub OfTexts : Type 0

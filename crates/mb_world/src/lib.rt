@@ -9,6 +9,8 @@ mod long;
 mod roles;
 mod rule;
 mod scope;
+#[cfg(test)]
+mod tests;
 mod world;
 
 pub use cell::{Cell, CellKind, Code, Coll, ErrorKind, Shape, Slots};

@@ -117,7 +117,11 @@ fn placed(places: &IndexMap<StrId, usize>, name: StrId) -> Option<usize>
 }
 
 // Notes the place of a name, unless another was noted before.
-fn note_place(places: &mut IndexMap<StrId, usize>, name: StrId, place: usize) -> Result<(), NoMemory>
+fn note_place(
+    places: &mut IndexMap<StrId, usize>,
+    name: StrId,
+    place: usize,
+) -> Result<(), NoMemory>
     ensures noted { OnOk result ((n : StrId)
         → placed places.new.entries n ≡ or_if (same_id n name) place (placed places.old.entries n)) }
     ensures kept { OnErr result (places.new.entries ≡ places.old.entries) }

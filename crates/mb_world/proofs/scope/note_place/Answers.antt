@@ -8,5 +8,5 @@ use Rattle.mb_world.proofs.scope.note_place.Goals as goal
 pub returns-clause-noted : goal.returns-clause-noted
 returns-clause-noted c =
     note-new same_id same_id-equal same_id-same c.args.places.now.entries c.insert.new.self.entries c.args.name c.args.place
-      (none-of (placed c.args.places.now.entries c.args.name) (sym c.contains_key.ensures ∙ c.if-contains_key.false))
-      c.in_ok-insert.ensures.updates.0
+    (none-of (placed c.args.places.now.entries c.args.name) (sym c.contains_key.ensures ∙ c.if-contains_key.false))
+    c.in_ok-insert.ensures.updates.0

@@ -14,4 +14,4 @@ loop-place-preserved c =
     let is : slice_get names place ≡ Some bound = slice_get-get_or names place (record { name = record { 0 = 0 }; value = None; fixed = false }) c.loop-place-test.true in
     let same : bound ≡ get_or names place bound = sym (get_or_from_slice_get names place bound bound is) in
     placed-step names place bound c.loop-place.places.entries c.note_place.new.places.entries c.loop-place-test.true same
-      (length-take-le place names (omega arith)) c.in_ok-note_place.ensures.noted c.loop-place.invariant
+    (length-take-le place names (omega arith)) c.in_ok-note_place.ensures.noted c.loop-place.invariant

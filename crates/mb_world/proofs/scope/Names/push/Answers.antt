@@ -11,7 +11,7 @@ invariant_of-self-2 c =
     let all : c.push_reserved.new.self.items ≡ names ++ c.args.bound ∷ [] = c.push_reserved.ensures.items ∙ ap (λ (xs : List Bound). xs ++ c.args.bound ∷ []) (sym c.deref.ensures.value) in
     let P : List Bound → Type 0 = λ xs. IsPlaced xs places in
     let pushed : IsPlaced (names ++ c.args.bound ∷ []) places = λ l n.
-        let long : length (names ++ c.args.bound ∷ []) ≡ length names + 1 = length-append names (c.args.bound ∷ []) in
-        let many : 8 < length names + 1 = omega arith in
-        placed-push names c.args.bound places (c.in_ok-add_place.ensures.placed many) n in
+    let long : length (names ++ c.args.bound ∷ []) ≡ length names + 1 = length-append names (c.args.bound ∷ []) in
+    let many : 8 < length names + 1 = omega arith in
+    placed-push names c.args.bound places (c.in_ok-add_place.ensures.placed many) n in
     subst P (sym all) pushed
