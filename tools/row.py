@@ -160,12 +160,13 @@ def module(options, files, wanted):
     shows = "Shows %s %s stage told" % (str(traced).lower(), str(lettered).lower())
     left = "--left" in options
     body += "pub Row : Type 0\nRow = %s\n\n" % ("%s × (stage.left ≡ %s)" % (shows, options["--left"]) if left else shows)
-    body += "pub row : Row\nunfolding Row given Validate\nrow = %s\n" % ("((refl, refl), refl)" if left else "(refl, refl)")
+    body += "pub row : Row\nunfolding Row given Validate encode_utf8\nrow = %s\n" % ("((refl, refl), refl)" if left else "(refl, refl)")
     return imports(body) + "\n" + head + "\n" + body
 
 
 MODULES = [
     ("std.specs.Prelude", "◌≡◌ refl ℕ List [] ◌∷◌ ◌++◌ Bool true false Option Some None codes pos negsuc"),
+    ("std.specs.Char", "encode_utf8"),
     ("mb_tree.specs.declared.kind.Sign.TheVariants", "Plus Minus Times Slash Percent TripleEqual NotDoubleEqual Less Greater "
      "LessEqual GreaterEqual In Instanceof Not Typeof Delete"),
     ("mb_desc.specs.Validate", "Validate"),

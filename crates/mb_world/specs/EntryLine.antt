@@ -60,7 +60,7 @@ number_of_text numbered t = position_or_len (same_text t) numbered + 1
 abbrev pub intrinsic_name : ℕ → List ℕ
 intrinsic_name p = unwrap_or (option_map name_of (intrinsic p)) []
 
--- the name of a method is that of its trap (ECMA-262 10.5, 28.1), and an access of a collection is named by the built-in
+-- the name of a method is that of its trap (ECMA-262 10.5, 28.1); an access of a collection is named by the built-in
 abbrev pub op_name : Op → List ℕ
 op_name GetPrototypeOf = codes "getPrototypeOf"
 op_name SetPrototypeOf = codes "setPrototypeOf"

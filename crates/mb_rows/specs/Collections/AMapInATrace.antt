@@ -1,4 +1,5 @@
 use Rattle.std.specs.Prelude.{◌≡◌, refl, ℕ, List, [], ◌∷◌, true, false, codes, pos}
+use Rattle.std.specs.Char.{encode_utf8}
 use Rattle.mb_tree.specs.declared.kind.Sign.TheVariants.{Plus, TripleEqual, Typeof}
 use Rattle.mb_desc.specs.Validate.{Validate}
 use Rattle.mb_world.specs.Form.{Written, ScriptForm, ExprStmtForm, ParamForm, NameForm, NumberForm, ArrayForm, ObjectForm, ValueForm, ArrowForm, GroupForm, MemberForm, AssignForm, CallForm, UnaryForm, BinaryForm}
@@ -67,5 +68,5 @@ pub Row : Type 0
 Row = Shows true false stage told × (stage.left ≡ 999926)
 
 pub row : Row
-unfolding Row given Validate
+unfolding Row given Validate encode_utf8
 row = ((refl, refl), refl)

@@ -1,4 +1,5 @@
 use Rattle.std.specs.Prelude.{refl, ℕ, List, [], ◌∷◌, true, false, Some, None, codes, pos}
+use Rattle.std.specs.Char.{encode_utf8}
 use Rattle.mb_tree.specs.declared.kind.Sign.TheVariants.{TripleEqual, Instanceof}
 use Rattle.mb_desc.specs.Validate.{Validate}
 use Rattle.mb_world.specs.Form.{Written, ScriptForm, BlockForm, ExprStmtForm, ThrowForm, TryForm, ParamForm, ThisForm, NameForm, NumberForm, TextForm, ObjectForm, GetterForm, SetterForm, MemberForm, AssignForm, CallForm, BinaryForm}
@@ -83,5 +84,5 @@ pub Row : Type 0
 Row = Shows true false stage told
 
 pub row : Row
-unfolding Row given Validate
+unfolding Row given Validate encode_utf8
 row = (refl, refl)

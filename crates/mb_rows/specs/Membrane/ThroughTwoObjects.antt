@@ -1,4 +1,5 @@
 use Rattle.std.specs.Prelude.{◌≡◌, refl, ℕ, List, [], ◌∷◌, ◌++◌, true, false, Some, None, codes, pos}
+use Rattle.std.specs.Char.{encode_utf8}
 use Rattle.mb_tree.specs.declared.kind.Sign.TheVariants.{Plus, Less}
 use Rattle.mb_desc.specs.Validate.{Validate}
 use Rattle.mb_world.specs.Form.{Written, ScriptForm, LetForm, DeclForm, BlockForm, ExprStmtForm, IfForm, ReturnForm, ParamForm, NameForm, NumberForm, ObjectForm, ValueForm, ArrowForm, MemberForm, AssignForm, CompoundForm, CallForm, BinaryForm}
@@ -84,5 +85,5 @@ pub Row : Type 0
 Row = Shows true false stage told × (stage.left ≡ 999876)
 
 pub row : Row
-unfolding Row given Validate
+unfolding Row given Validate encode_utf8
 row = ((refl, refl), refl)

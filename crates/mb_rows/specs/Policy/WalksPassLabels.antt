@@ -1,4 +1,5 @@
 use Rattle.std.specs.Prelude.{refl, ℕ, List, [], ◌∷◌, false, Some, None, codes}
+use Rattle.std.specs.Char.{encode_utf8}
 use Rattle.mb_desc.specs.Validate.{Validate}
 use Rattle.mb_world.specs.Value.{Null}
 use Rattle.mb_world.specs.Form.{ScriptForm, LetForm, DeclForm, FunctionDeclForm, ExprStmtForm, ReturnForm, ParamForm, ThisForm, NameForm, TextForm, LiteralForm, ObjectForm, ArrowForm, MemberForm, AssignForm, CallForm}
@@ -72,5 +73,5 @@ pub Row : Type 0
 Row = Shows false false stage told
 
 pub row : Row
-unfolding Row given Validate
+unfolding Row given Validate encode_utf8
 row = (refl, refl)

@@ -1,4 +1,5 @@
 use Rattle.std.specs.Prelude.{refl, ℕ, List, [], ◌∷◌, false, Some, None, codes, pos}
+use Rattle.std.specs.Char.{encode_utf8}
 use Rattle.mb_tree.specs.declared.kind.Sign.TheVariants.{Instanceof}
 use Rattle.mb_desc.specs.Validate.{Validate}
 use Rattle.mb_world.specs.Form.{Written, ScriptForm, LetForm, DeclForm, BlockForm, ExprStmtForm, TryForm, ParamForm, NameForm, NumberForm, ObjectForm, ValueForm, ArrowForm, MemberForm, CallForm, NewForm, BinaryForm}
@@ -61,5 +62,5 @@ pub Row : Type 0
 Row = Shows false false stage told
 
 pub row : Row
-unfolding Row given Validate
+unfolding Row given Validate encode_utf8
 row = (refl, refl)

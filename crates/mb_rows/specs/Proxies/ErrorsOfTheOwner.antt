@@ -1,4 +1,5 @@
 use Rattle.std.specs.Prelude.{refl, ℕ, List, [], ◌∷◌, ◌++◌, true, false, Some, None, codes, pos}
+use Rattle.std.specs.Char.{encode_utf8}
 use Rattle.mb_desc.specs.Validate.{Validate}
 use Rattle.mb_world.specs.Value.{Undefined}
 use Rattle.mb_world.specs.Form.{Written, ScriptForm, LetForm, DeclForm, BlockForm, ExprStmtForm, ReturnForm, TryForm, ParamForm, NameForm, NumberForm, LiteralForm, ObjectForm, MethodForm, ArrowForm, MemberForm, AssignForm, CallForm}
@@ -121,5 +122,5 @@ pub Row : Type 0
 Row = Shows true false stage told
 
 pub row : Row
-unfolding Row given Validate
+unfolding Row given Validate encode_utf8
 row = (refl, refl)

@@ -1,4 +1,5 @@
 use Rattle.std.specs.Prelude.{◌≡◌, refl, ℕ, List, [], ◌∷◌, true, false, Some, None, codes, pos}
+use Rattle.std.specs.Char.{encode_utf8}
 use Rattle.mb_tree.specs.declared.kind.Sign.TheVariants.{TripleEqual, NotDoubleEqual, Instanceof, Typeof}
 use Rattle.mb_desc.specs.Validate.{Validate}
 use Rattle.mb_world.specs.Value.{Undefined, Null, Truth}
@@ -265,5 +266,5 @@ pub Row : Type 0
 Row = Shows false false stage told × (stage.left ≡ 997874)
 
 pub row : Row
-unfolding Row given Validate
+unfolding Row given Validate encode_utf8
 row = ((refl, refl), refl)

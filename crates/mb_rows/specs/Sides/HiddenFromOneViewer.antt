@@ -1,4 +1,5 @@
 use Rattle.std.specs.Prelude.{refl, ℕ, List, [], ◌∷◌, true, false, Some, codes, pos}
+use Rattle.std.specs.Char.{encode_utf8}
 use Rattle.mb_desc.specs.Validate.{Validate}
 use Rattle.mb_world.specs.Form.{ScriptForm, ExprStmtForm, NameForm, NumberForm, MemberForm, AssignForm, CallForm}
 use Rattle.mb_world.specs.Graph.{Program, Rule, Hide}
@@ -72,5 +73,5 @@ pub Row : Type 0
 Row = Shows false true stage told
 
 pub row : Row
-unfolding Row given Validate
+unfolding Row given Validate encode_utf8
 row = (refl, refl)

@@ -1,4 +1,5 @@
 use Rattle.std.specs.Prelude.{◌≡◌, refl, length, ℕ, List, [], ◌∷◌, true, false, Some, codes, pos}
+use Rattle.std.specs.Char.{encode_utf8}
 use Rattle.mb_tree.specs.declared.kind.Sign.TheVariants.{Plus}
 use Rattle.mb_desc.specs.Validate.{Validate}
 use Rattle.mb_world.specs.Form.{Written, ScriptForm, LetForm, DeclForm, ExprStmtForm, ParamForm, NameForm, NumberForm, ArrayForm, ObjectForm, ValueForm, ArrowForm, MemberForm, IndexForm, AssignForm, CompoundForm, CallForm, CondForm}
@@ -70,5 +71,5 @@ Row =
     × (length (entries stage.graph.log) ≡ 6)
 
 pub row : Row
-unfolding Row given Validate
+unfolding Row given Validate encode_utf8
 row = ((refl, refl), refl, refl, refl)

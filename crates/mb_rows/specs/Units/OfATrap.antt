@@ -1,4 +1,5 @@
 use Rattle.std.specs.Prelude.{◌≡◌, refl, ℕ, List, [], ◌∷◌, true, false, Some, codes, pos}
+use Rattle.std.specs.Char.{encode_utf8}
 use Rattle.mb_desc.specs.Validate.{Validate}
 use Rattle.mb_world.specs.Value.{Truth}
 use Rattle.mb_world.specs.Form.{Written, ScriptForm, LetForm, DeclForm, ExprStmtForm, NameForm, NumberForm, LiteralForm, ObjectForm, ValueForm, ArrowForm, MemberForm, AssignForm, NewForm}
@@ -53,5 +54,5 @@ pub Row : Type 0
 Row = Shows false false stage told × (stage.left ≡ 999969)
 
 pub row : Row
-unfolding Row given Validate
+unfolding Row given Validate encode_utf8
 row = ((refl, refl), refl)

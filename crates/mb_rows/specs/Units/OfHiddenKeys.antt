@@ -1,4 +1,5 @@
 use Rattle.std.specs.Prelude.{◌≡◌, refl, ℕ, List, [], ◌∷◌, false, None, codes, pos}
+use Rattle.std.specs.Char.{encode_utf8}
 use Rattle.mb_desc.specs.Validate.{Validate}
 use Rattle.mb_world.specs.Form.{ScriptForm, ExprStmtForm, NameForm, NumberForm, TextForm, MemberForm, AssignForm, CallForm}
 use Rattle.mb_world.specs.Graph.{Program, Rule, Hide}
@@ -59,5 +60,5 @@ pub Row : Type 0
 Row = Shows false false stage told × (stage.left ≡ 999952)
 
 pub row : Row
-unfolding Row given Validate
+unfolding Row given Validate encode_utf8
 row = ((refl, refl), refl)

@@ -1,4 +1,5 @@
 use Rattle.std.specs.Prelude.{◌≡◌, refl, ℕ, List, [], ◌∷◌, false, Some, codes, pos}
+use Rattle.std.specs.Char.{encode_utf8}
 use Rattle.mb_tree.specs.declared.kind.Sign.TheVariants.{Plus}
 use Rattle.mb_desc.specs.Validate.{Validate}
 use Rattle.mb_world.specs.Form.{ScriptForm, LetForm, DeclForm, ExprStmtForm, NameForm, NumberForm, TextForm, CompoundForm, BinaryForm}
@@ -55,5 +56,5 @@ pub Row : Type 0
 Row = Shows false false stage told × (stage.left ≡ 999982)
 
 pub row : Row
-unfolding Row given Validate
+unfolding Row given Validate encode_utf8
 row = ((refl, refl), refl)
