@@ -59,6 +59,3 @@ fn is_array(kind: &CellKind) -> bool
 {
     matches!(kind, CellKind::Array)
 }
-
-#[cfg(test)]
-mod tests;
