@@ -59,7 +59,7 @@ fn add_long(w: &mut World) -> Result<(), Fail> {
     Ok(())
 }
 
-fn make(rt: &HostRuntime, w: &mut World, home: Side, kind: CellKind) -> Result<ObjId, Fail> {
+fn make(rt: &impl Abort, w: &mut World, home: Side, kind: CellKind) -> Result<ObjId, Fail> {
     assert!(rt; home.0 < 8);
     let kind = match kind {
         CellKind::Membrane { behind, shadow } => {
@@ -86,7 +86,7 @@ fn datum(n: i64, open: bool) -> Full<Value> {
     }
 }
 
-fn puts(rt: &HostRuntime, w: &mut World, id: ObjId, text: u32, n: i64) -> Result<(), Fail> {
+fn puts(rt: &impl Abort, w: &mut World, id: ObjId, text: u32, n: i64) -> Result<(), Fail> {
     there(rt, w, id);
     let key = key(rt, w, text);
     let full = Full::Datum {
@@ -99,25 +99,25 @@ fn puts(rt: &HostRuntime, w: &mut World, id: ObjId, text: u32, n: i64) -> Result
     Ok(())
 }
 
-fn removes(rt: &HostRuntime, w: &mut World, id: ObjId, text: u32) -> bool {
+fn removes(rt: &impl Abort, w: &mut World, id: ObjId, text: u32) -> bool {
     there(rt, w, id);
     let key = key(rt, w, text);
     w.remove(id, key)
 }
 
-fn property(rt: &HostRuntime, w: &World, id: ObjId, place: u32) -> Option<(Key, Full<Value>)> {
+fn property(rt: &impl Abort, w: &World, id: ObjId, place: u32) -> Option<(Key, Full<Value>)> {
     there(rt, w, id);
     w.cell(id).props.at(place)
 }
 
-fn number(rt: &HostRuntime, w: &World, id: ObjId) -> Option<u32> {
+fn number(rt: &impl Abort, w: &World, id: ObjId) -> Option<u32> {
     there(rt, w, id);
     w.serial(id)
 }
 
 // Adds the left side's `set` of a text of the object 0, which throws a text.
 fn sets(
-    rt: &HostRuntime,
+    rt: &impl Abort,
     w: &mut World,
     key_text: u32,
     given: u32,
@@ -139,13 +139,7 @@ fn sets(
 }
 
 // Writes a slot, and empties it where it isn't to be filled.
-fn writes(
-    rt: &HostRuntime,
-    w: &mut World,
-    id: ObjId,
-    at: u32,
-    filled: bool,
-) -> Result<(), Fail> {
+fn writes(rt: &impl Abort, w: &mut World, id: ObjId, at: u32, filled: bool) -> Result<(), Fail> {
     collection(rt, w, id);
     assert!(rt; at as usize <= w.slots(id).len());
     if filled {
