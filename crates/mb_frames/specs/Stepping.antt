@@ -9,7 +9,8 @@ use Rattle.mb_frames.specs.Held.{AreIn}
 use Rattle.mb_frames.specs.Holding.{move_held, passage_held}
 use Rattle.mb_frames.specs.Standing.{Here, Logged, Passage, Tasks, done_by, goes_on, home_of, left_by, move_of, moves, row_of, under_way}
 use Rattle.mb_model.specs.Engine.{Spent, exec, leading}
-use Rattle.mb_model.specs.Text.{lines_of, long_texts}
+use Rattle.mb_model.specs.Text.{lines_of}
+use Rattle.mb_world.specs.EntryLine.{numbered_texts}
 use Rattle.mb_model.specs.Trace.Entries.{entries}
 use Rattle.mb_model.specs.Writing.{Row}
 use Rattle.mb_world.specs.Data.{Data}
@@ -43,7 +44,7 @@ pub record Added (d d' : Data) (l l' : Written) (added : List Item) : Type 0 whe
   pub few : length added ≤ 1
   pub trace : entries_in d' ≡ entries_in d ++ entries added
   pub told : l' ≡ record l {
-    lines = l.lines ++ lines_of l.traced l.lettered (long_texts [] (entries_in d')) added;
+    lines = l.lines ++ lines_of l.traced l.lettered (numbered_texts (entries_in d')) added;
   }
 
 -- ---- worlds

@@ -73,11 +73,13 @@ abbrev pub IsCollectionAt : Data → ObjId → Type 0
 IsCollectionAt d id = (t : graph.Thing) × (thing_at (Image d []) (object_in (names_of d) id) ≡ Some t)
     × IsCollectionKind t.kind
 
+-- a value that constructs (ECMA-262 7.2.4)
 abbrev pub IsConstructor : Data → Value → Type 0
 IsConstructor d y = is_constructor (Image d []) (Resolve (names_of d) y) ≡ true
 
-abbrev pub IsMadeBy : Data → Side → ObjId → Type 0
-IsMadeBy d home id = (behind shadow : ObjId) × IsMembrane d id home behind shadow
+-- a membrane proxy of that home
+abbrev pub IsProxyAt : Data → Side → ObjId → Type 0
+IsProxyAt d home id = (behind shadow : ObjId) × IsMembrane d id home behind shadow
 
 abbrev pub IsSound : Data → Side → Held → Type 0
 IsSound d home (HeldValue y) = InRange y
@@ -101,7 +103,7 @@ IsSound d home (HeldFull full) = IsProperty d full
 IsSound d home (HeldReal full) = Maybe (IsProperty d) full
 IsSound d home (HeldPlace place) = intrinsic place ≢ None
 IsSound d home (HeldBegan began) = began ≤ length d.entries
-IsSound d home (HeldEntered id) = d.joined ≡ false → IsMadeBy d home id
+IsSound d home (HeldEntered id) = d.joined ≡ false → IsProxyAt d home id
 
 abbrev pub AreSound : Data → Side → List Held → Type 0
 AreSound d home held = AllByRecursion (IsSound d home) held
@@ -118,9 +120,10 @@ pub record StaysFound (d d' : Data) : Type 0 where
   pub collection : (id : ObjId) → ObjIn d id → IsCollectionAt d id → IsCollectionAt d' id
   pub scopes : (id : ScopeId) (home : Side) → ScopeIn d id → scope_home d id home → scope_home d' id home
   pub entries : length d.entries ≤ length d'.entries
-  pub proxies : (id : ObjId) (home : Side) → IsMadeBy d home id → IsMadeBy d' home id
+  pub proxies : (id : ObjId) (home : Side) → IsProxyAt d home id → IsProxyAt d' home id
 
--- Where the sort is that of the outcome. `FormedBy` has the parameters of the world's.
+-- A machine is formed, with its world. The sort is that of the outcome, which is there or is to come; the parameters are
+-- those of what holds of the world.
 pub record Formed (IsProgram : Script → Type 0) (AreRules : List graph.Rule → Type 0) (IsEntry : graph.Entry → Type 0)
     (d : Data) (m : Machine) : Type 0 where
   pub world : FormedBy IsProgram AreRules IsEntry d
