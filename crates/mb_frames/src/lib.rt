@@ -14,8 +14,6 @@ mod proxies;
 mod reflecting;
 mod statements;
 mod task;
-#[cfg(test)]
-mod tests;
 mod values;
 
 pub use arrays::{ArrayFrame, Callback, Member, Turn};
