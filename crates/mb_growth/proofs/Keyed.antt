@@ -57,42 +57,42 @@ put-tells given (Some (Accessor f s e false)) h = λ undef.
     let bad : false ≡ true = i in
     cc
 
-module _ (p k : ℕ) (b g : Graph) (u : Thing) (t : IsTarget k g u) (reach : Reaches b g) where
-  pub gets-get_said : (i : PropertyKey) (r said : Val) → Gets (answering p k (Get i r)) (Owed p k (Get i r) b) g (get_said p (Object k) i said)
+module _ (p : ℕ) (k : Val) (b g : Graph) (u : Thing) (t : IsTarget k g u) (reach : Reaches b g) where
+  pub gets-get_said : (i : PropertyKey) (r said : Val) → Gets (answering p k (Get i r)) (Owed p k (Get i r) b) g (get_said p k i said)
   gets-get_said i r said =
       gets-bind (answering p k (Get i r)) (λ x h. (x ≡ shown_property g p u i) × Frozen g h) (Owed p k (Get i r) b) g
-      (read_own p (Object k) i) (λ real. judge p (rule.get said real) (Value said)) (gets-own p k (Get i r) b g g u i t (refl, refl) reach)
+      (read_own p k i) (λ real. judge p (rule.get said real) (Value said)) (gets-own p k (Get i r) b g g u i t (refl, refl) reach)
       (λ real h q x.
       gets-judged p k (Get i r) b h (rule.get said real) (Value said)
       (λ pass. frozen-owes p k (Get i r) b g h u (Value said) t x.1 (reaches-on b g h reach q.1)
       (subst (λ (o : Option (Full Val)). AllowsGot same_value Undefined o said) (x.0 ∙ sym (seen-at g p u i)) (got-tells said real pass))))
 
   pub gets-set_said : (i : PropertyKey) (x r : Val) (said : Bool)
-      → Gets (answering p k (Set i x r)) (Owed p k (Set i x r) b) g (set_said p (Object k) i x said)
+      → Gets (answering p k (Set i x r)) (Owed p k (Set i x r) b) g (set_said p k i x said)
   gets-set_said i x r false =
       gets-give (answering p k (Set i x r)) (Owed p k (Set i x r) b) g (Flag false)
       (frozen-owes p k (Set i x r) b g g u (Flag false) t (refl, refl) reach tt)
   gets-set_said i x r true =
       gets-bind (answering p k (Set i x r)) (λ o h. (o ≡ shown_property g p u i) × Frozen g h) (Owed p k (Set i x r) b) g
-      (read_own p (Object k) i) (λ real. judge p (rule.set x real) (Flag true)) (gets-own p k (Set i x r) b g g u i t (refl, refl) reach)
+      (read_own p k i) (λ real. judge p (rule.set x real) (Flag true)) (gets-own p k (Set i x r) b g g u i t (refl, refl) reach)
       (λ real h q y.
       gets-judged p k (Set i x r) b h (rule.set x real) (Flag true)
       (λ pass. frozen-owes p k (Set i x r) b g h u (Flag true) t y.1 (reaches-on b g h reach q.1)
       (subst (λ (o : Option (Full Val)). AllowsSet same_value Undefined o x) (y.0 ∙ sym (seen-at g p u i)) (put-tells x real pass))))
 
   pub gets-define_said : (i : PropertyKey) (d : Desc Val) (said : Bool)
-      → Gets (answering p k (DefineOwnProperty i d)) (Owed p k (DefineOwnProperty i d) b) g (define_said p (Object k) i d said)
+      → Gets (answering p k (DefineOwnProperty i d)) (Owed p k (DefineOwnProperty i d) b) g (define_said p k i d said)
   gets-define_said i d false =
       gets-give (answering p k (DefineOwnProperty i d)) (Owed p k (DefineOwnProperty i d) b) g (Flag false)
       (frozen-owes p k (DefineOwnProperty i d) b g g u (Flag false) t (refl, refl) reach tt)
   gets-define_said i d true =
       gets-bind (answering p k (DefineOwnProperty i d)) (λ o h. (o ≡ shown_property g p u i) × Frozen g h) (Owed p k (DefineOwnProperty i d) b) g
-      (read_own p (Object k) i) (λ real. define_read p (Object k) d real)
+      (read_own p k i) (λ real. define_read p k d real)
       (gets-own p k (DefineOwnProperty i d) b g g u i t (refl, refl) reach)
       (λ real h q y.
       let there : Reaches b h = reaches-on b g h reach q.1 in
       gets-bind (answering p k (DefineOwnProperty i d)) (λ e j. (e ≡ u.extensible) × Frozen g j) (Owed p k (DefineOwnProperty i d) b) h
-      (read_extensible p (Object k)) (λ e. judge p (rule.define d real e) (Flag true))
+      (read_extensible p k) (λ e. judge p (rule.define d real e) (Flag true))
       (gets-extensible p k (DefineOwnProperty i d) b g h u t y.1 there)
       (λ e j r z.
       gets-judged p k (DefineOwnProperty i d) b j (rule.define d real e) (Flag true)
@@ -101,15 +101,15 @@ module _ (p k : ℕ) (b g : Graph) (u : Thing) (t : IsTarget k g u) (reach : Rea
       (subst (λ (x : Bool). AllowsDefined same_value Undefined x real d) z.0 (define-tells d real e pass))))))
 
   pub gets-own_converted : (i : PropertyKey) (d : Desc Val)
-      → Gets (answering p k (GetOwnProperty i)) (Owed p k (GetOwnProperty i) b) g (own_converted p (Object k) i d)
+      → Gets (answering p k (GetOwnProperty i)) (Owed p k (GetOwnProperty i) b) g (own_converted p k i d)
   gets-own_converted i d =
       gets-bind (answering p k (GetOwnProperty i)) (λ o h. (o ≡ shown_property g p u i) × Frozen g h) (Owed p k (GetOwnProperty i) b) g
-      (read_own p (Object k) i) (λ real. own_read p (Object k) (Complete Undefined d) real)
+      (read_own p k i) (λ real. own_read p k (Complete Undefined d) real)
       (gets-own p k (GetOwnProperty i) b g g u i t (refl, refl) reach)
       (λ real h q y.
       let there : Reaches b h = reaches-on b g h reach q.1 in
       gets-bind (answering p k (GetOwnProperty i)) (λ e j. (e ≡ u.extensible) × Frozen g j) (Owed p k (GetOwnProperty i) b) h
-      (read_extensible p (Object k)) (λ e. judge p (rule.own_present (Complete Undefined d) real e) (Prop (Some (Complete Undefined d))))
+      (read_extensible p k) (λ e. judge p (rule.own_present (Complete Undefined d) real e) (Prop (Some (Complete Undefined d))))
       (gets-extensible p k (GetOwnProperty i) b g h u t y.1 there)
       (λ e j r z.
       gets-judged p k (GetOwnProperty i) b j (rule.own_present (Complete Undefined d) real e) (Prop (Some (Complete Undefined d)))
@@ -168,26 +168,26 @@ parted-is shows (i ∷ is) x = by (shows i) refl (parted-is shows is)
         rw e (rw e (one-part i f (filter_map (λ j. with_key j (shows j)) is) x
         (parted_by shows (keys_of (filter_map (λ j. with_key j (shows j)) is)) (with_parted i x (Some f))) (rest (with_parted i x (Some f)))))
 
-module _ (p k : ℕ) (b s : Graph) (u : Thing) (t : IsTarget k s u) (said : List PropertyKey) where
+module _ (p : ℕ) (k : Val) (b s : Graph) (u : Thing) (t : IsTarget k s u) (said : List PropertyKey) where
   gets-parted : (e : Bool) → e ≡ u.extensible → (ks : List PropertyKey) (x : Parted) (g : Graph) → Frozen s g → Reaches b g
       → (is_pass (rule.own_keys said (parted_by (shown_property s p u) ks x).fixed (parted_by (shown_property s p u) ks x).loose u.extensible) ≡ true
       → EntryPasses OwnPropertyKeys (Normal (Keys said)) (Shown s p u))
-      → Gets (answering p k OwnPropertyKeys) (Owed p k OwnPropertyKeys b) g (keys_parted p (Object k) said e ks x)
+      → Gets (answering p k OwnPropertyKeys) (Owed p k OwnPropertyKeys b) g (keys_parted p k said e ks x)
   gets-parted e same [] x g f reach passes =
       gets-judged p k OwnPropertyKeys b g (rule.own_keys said x.fixed x.loose e) (Keys said)
       (λ pass. frozen-owes p k OwnPropertyKeys b s g u (Keys said) t f reach
       (passes (subst (λ (z : Bool). is_pass (rule.own_keys said x.fixed x.loose z) ≡ true) same pass)))
   gets-parted e same (i ∷ is) x g f reach passes =
       gets-bind (answering p k OwnPropertyKeys) (λ o h. (o ≡ shown_property s p u i) × Frozen s h) (Owed p k OwnPropertyKeys b) g
-      (read_own p (Object k) i) (λ real. keys_parted p (Object k) said e is (with_parted i x real))
+      (read_own p k i) (λ real. keys_parted p k said e is (with_parted i x real))
       (gets-own p k OwnPropertyKeys b s g u i t f reach)
       (λ real h q y.
       subst (λ (o : Option (Full Val)). Gets (answering p k OwnPropertyKeys) (Owed p k OwnPropertyKeys b) h
-      (keys_parted p (Object k) said e is (with_parted i x o))) (sym y.0)
+      (keys_parted p k said e is (with_parted i x o))) (sym y.0)
       (gets-parted e same is (with_parted i x (shown_property s p u i)) h y.1 (reaches-on b g h reach q.1) passes))
 
   gets-keys_read : (e : Bool) → e ≡ u.extensible → (g : Graph) → Frozen s g → Reaches b g
-      → Gets (answering p k OwnPropertyKeys) (Owed p k OwnPropertyKeys b) g (keys_read p (Object k) said e (shown_keys s p u))
+      → Gets (answering p k OwnPropertyKeys) (Owed p k OwnPropertyKeys b) g (keys_read p k said e (shown_keys s p u))
   gets-keys_read e same g f reach =
       let nothing : Parted = record { fixed = []; loose = [] } in
       let parts : Parts (parted_by (shown_property s p u) (shown_keys s p u) nothing) (Shown s p u).properties nothing =
@@ -199,20 +199,20 @@ module _ (p k : ℕ) (b s : Graph) (u : Thing) (t : IsTarget k s u) (said : List
       parts.0 pass)))
 
   gets-keys_extensible : (e : Bool) → e ≡ u.extensible → (g : Graph) → Frozen s g → Reaches b g
-      → Gets (answering p k OwnPropertyKeys) (Owed p k OwnPropertyKeys b) g (keys_extensible p (Object k) said e)
+      → Gets (answering p k OwnPropertyKeys) (Owed p k OwnPropertyKeys b) g (keys_extensible p k said e)
   gets-keys_extensible e same g f reach =
       gets-bind (answering p k OwnPropertyKeys) (λ ks h. (ks ≡ shown_keys s p u) × Frozen s h) (Owed p k OwnPropertyKeys b) g
-      (answer (perform p OwnPropertyKeys (Object k)) >>= (λ a. give (keys_in a))) (λ ks. keys_read p (Object k) said e ks)
+      (answer (perform p OwnPropertyKeys k) >>= (λ a. give (keys_in a))) (λ ks. keys_read p k said e ks)
       (gets-listed p k OwnPropertyKeys b s g u t f reach)
       (λ ks h q y.
-      subst (λ (xs : List PropertyKey). Gets (answering p k OwnPropertyKeys) (Owed p k OwnPropertyKeys b) h (keys_read p (Object k) said e xs)) (sym y.0)
+      subst (λ (xs : List PropertyKey). Gets (answering p k OwnPropertyKeys) (Owed p k OwnPropertyKeys b) h (keys_read p k said e xs)) (sym y.0)
       (gets-keys_read e same h y.1 (reaches-on b g h reach q.1)))
 
-  pub gets-keys_listed : Reaches b s → Gets (answering p k OwnPropertyKeys) (Owed p k OwnPropertyKeys b) s (keys_listed p (Object k) said)
+  pub gets-keys_listed : Reaches b s → Gets (answering p k OwnPropertyKeys) (Owed p k OwnPropertyKeys b) s (keys_listed p k said)
   gets-keys_listed reach =
       gets-judged_then p k OwnPropertyKeys b s (rule.own_keys said [] [] true) Nothing
-      (λ _. read_extensible p (Object k) >>= (λ e. keys_extensible p (Object k) said e))
+      (λ _. read_extensible p k >>= (λ e. keys_extensible p k said e))
       (gets-bind (answering p k OwnPropertyKeys) (λ e h. (e ≡ u.extensible) × Frozen s h) (Owed p k OwnPropertyKeys b) s
-      (read_extensible p (Object k)) (λ e. keys_extensible p (Object k) said e)
+      (read_extensible p k) (λ e. keys_extensible p k said e)
       (gets-extensible p k OwnPropertyKeys b s s u t (refl, refl) reach)
       (λ e h q y. gets-keys_extensible e y.0 h y.1 (reaches-on b s h reach q.1)))

@@ -12,6 +12,7 @@ pub mod Ends
 pub mod There
 pub mod Said
 pub mod Answered
+pub mod BuiltIns
 pub mod Checked
 pub mod Needed
 pub mod Reading

@@ -39,7 +39,7 @@ use Rattle.mb_growth.proofs.Keyed.{gets-get_said, gets-set_said, gets-define_sai
 
 -- ---- the trap is called
 
-module _ (p k : ℕ) (b : Graph) (u : Thing) (t : IsTarget k b u) where
+module _ (p : ℕ) (k : Val) (b : Graph) (u : Thing) (t : IsTarget k b u) where
   -- the target, once something else was done
   abbrev Going : Method → Graph → Does Answer → Type 0
   Going m g f = Gets (answering p k m) (Owed p k m b) g f
@@ -54,13 +54,13 @@ module _ (p k : ℕ) (b : Graph) (u : Thing) (t : IsTarget k b u) where
       more a h w.0 w.1 there)
 
   gets-own_said : (i : PropertyKey) (said : Val) (g : Graph) (w : Thing) → IsTarget k g w → Reaches b g
-      → Going (GetOwnProperty i) g (own_said p (Object k) i said)
+      → Going (GetOwnProperty i) g (own_said p k i said)
   gets-own_said i Undefined g w target reach = gets-own_said_absent p k b g w target reach i
   gets-own_said i said g w target reach = by (is_object said)
     where
-      by : (c : Bool) → Going (GetOwnProperty i) g (if c then own_present_said p (Object k) i said else type_error p)
+      by : (c : Bool) → Going (GetOwnProperty i) g (if c then own_present_said p k i said else type_error p)
       by true =
-          gets-through (GetOwnProperty i) g (todesc p said) (λ d. own_converted p (Object k) i d) reach
+          gets-through (GetOwnProperty i) g (todesc p said) (λ d. own_converted p k i d) reach
           ((keeps-todesc (answering p k (GetOwnProperty i)) p said).goes g)
           (λ d h x at there. gets-own_converted p k b h x at there i d)
       by false = gets-fail (answering p k (GetOwnProperty i)) (Owed p k (GetOwnProperty i) b) g p TypeError
@@ -76,76 +76,76 @@ module _ (p k : ℕ) (b : Graph) (u : Thing) (t : IsTarget k b u) where
       gets-judged p k (Construct vs target) b g (rule.construct said) (Value said)
       (λ pass. owes-now p k (Construct vs target) b g (Normal (Value said)) reach (λ w at. tt))
 
-  gets-trapped : (h trap : Val) (m : Method) (g : Graph) → Reaches b g → Going m g (trapped p (Object k) h trap m)
+  gets-trapped : (h trap : Val) (m : Method) (g : Graph) → Reaches b g → Going m g (trapped p k h trap m)
   gets-trapped h trap GetPrototypeOf g reach =
-      gets-through GetPrototypeOf g (trap_value p (Object k) h trap []) (λ said. prototype_said p (Object k) said) reach
-      ((keeps-trap_value (answering p k GetPrototypeOf) p (Object k) h trap []).goes g)
+      gets-through GetPrototypeOf g (trap_value p k h trap []) (λ said. prototype_said p k said) reach
+      ((keeps-trap_value (answering p k GetPrototypeOf) p k h trap []).goes g)
       (λ said i w at there. gets-prototype_said p k b i w at there said)
   gets-trapped h trap (SetPrototypeOf given) g reach =
-      gets-through (SetPrototypeOf given) g (trap_flag p (Object k) h trap (given ∷ [])) (λ said. set_prototype_said p (Object k) given said) reach
-      ((keeps-trap_flag (answering p k (SetPrototypeOf given)) p (Object k) h trap (given ∷ [])).goes g)
+      gets-through (SetPrototypeOf given) g (trap_flag p k h trap (given ∷ [])) (λ said. set_prototype_said p k given said) reach
+      ((keeps-trap_flag (answering p k (SetPrototypeOf given)) p k h trap (given ∷ [])).goes g)
       (λ said i w at there. gets-set_prototype_said p k b i w at there given said)
   gets-trapped h trap IsExtensible g reach =
-      gets-through IsExtensible g (trap_flag p (Object k) h trap []) (λ said. extensible_said p (Object k) said) reach
-      ((keeps-trap_flag (answering p k IsExtensible) p (Object k) h trap []).goes g)
+      gets-through IsExtensible g (trap_flag p k h trap []) (λ said. extensible_said p k said) reach
+      ((keeps-trap_flag (answering p k IsExtensible) p k h trap []).goes g)
       (λ said i w at there. gets-extensible_said p k b i w at there said)
   gets-trapped h trap PreventExtensions g reach =
-      gets-through PreventExtensions g (trap_flag p (Object k) h trap []) (λ said. prevent_said p (Object k) said) reach
-      ((keeps-trap_flag (answering p k PreventExtensions) p (Object k) h trap []).goes g)
+      gets-through PreventExtensions g (trap_flag p k h trap []) (λ said. prevent_said p k said) reach
+      ((keeps-trap_flag (answering p k PreventExtensions) p k h trap []).goes g)
       (λ said i w at there. gets-prevent_said p k b i w at there said)
   gets-trapped h trap (GetOwnProperty j) g reach =
-      gets-through (GetOwnProperty j) g (trap_value p (Object k) h trap (value_of_key j ∷ [])) (λ said. own_said p (Object k) j said) reach
-      ((keeps-trap_value (answering p k (GetOwnProperty j)) p (Object k) h trap (value_of_key j ∷ [])).goes g)
+      gets-through (GetOwnProperty j) g (trap_value p k h trap (value_of_key j ∷ [])) (λ said. own_said p k j said) reach
+      ((keeps-trap_value (answering p k (GetOwnProperty j)) p k h trap (value_of_key j ∷ [])).goes g)
       (λ said i w at there. gets-own_said j said i w at there)
   gets-trapped h trap (DefineOwnProperty j d) g reach =
       gets-through (DefineOwnProperty j d) g (fromdesc p d)
-      (λ o. trap_flag p (Object k) h trap (value_of_key j ∷ o ∷ []) >>= (λ said. define_said p (Object k) j d said)) reach
+      (λ o. trap_flag p k h trap (value_of_key j ∷ o ∷ []) >>= (λ said. define_said p k j d said)) reach
       ((keeps-fromdesc (answering p k (DefineOwnProperty j d)) p d).goes g)
       (λ o i w at there.
-      gets-through (DefineOwnProperty j d) i (trap_flag p (Object k) h trap (value_of_key j ∷ o ∷ [])) (λ said. define_said p (Object k) j d said) there
-      ((keeps-trap_flag (answering p k (DefineOwnProperty j d)) p (Object k) h trap (value_of_key j ∷ o ∷ [])).goes i)
+      gets-through (DefineOwnProperty j d) i (trap_flag p k h trap (value_of_key j ∷ o ∷ [])) (λ said. define_said p k j d said) there
+      ((keeps-trap_flag (answering p k (DefineOwnProperty j d)) p k h trap (value_of_key j ∷ o ∷ [])).goes i)
       (λ said l x is reaches. gets-define_said p k b l x is reaches j d said))
   gets-trapped h trap (HasProperty j) g reach =
-      gets-through (HasProperty j) g (trap_flag p (Object k) h trap (value_of_key j ∷ [])) (λ said. has_said p (Object k) j said) reach
-      ((keeps-trap_flag (answering p k (HasProperty j)) p (Object k) h trap (value_of_key j ∷ [])).goes g)
+      gets-through (HasProperty j) g (trap_flag p k h trap (value_of_key j ∷ [])) (λ said. has_said p k j said) reach
+      ((keeps-trap_flag (answering p k (HasProperty j)) p k h trap (value_of_key j ∷ [])).goes g)
       (λ said i w at there. gets-has_said p k b i w at there j said)
   gets-trapped h trap (Get j r) g reach =
-      gets-through (Get j r) g (trap_value p (Object k) h trap (value_of_key j ∷ r ∷ [])) (λ said. get_said p (Object k) j said) reach
-      ((keeps-trap_value (answering p k (Get j r)) p (Object k) h trap (value_of_key j ∷ r ∷ [])).goes g)
+      gets-through (Get j r) g (trap_value p k h trap (value_of_key j ∷ r ∷ [])) (λ said. get_said p k j said) reach
+      ((keeps-trap_value (answering p k (Get j r)) p k h trap (value_of_key j ∷ r ∷ [])).goes g)
       (λ said i w at there. gets-get_said p k b i w at there j r said)
   gets-trapped h trap (Set j x r) g reach =
-      gets-through (Set j x r) g (trap_flag p (Object k) h trap (value_of_key j ∷ x ∷ r ∷ [])) (λ said. set_said p (Object k) j x said) reach
-      ((keeps-trap_flag (answering p k (Set j x r)) p (Object k) h trap (value_of_key j ∷ x ∷ r ∷ [])).goes g)
+      gets-through (Set j x r) g (trap_flag p k h trap (value_of_key j ∷ x ∷ r ∷ [])) (λ said. set_said p k j x said) reach
+      ((keeps-trap_flag (answering p k (Set j x r)) p k h trap (value_of_key j ∷ x ∷ r ∷ [])).goes g)
       (λ said i w at there. gets-set_said p k b i w at there j x r said)
   gets-trapped h trap (Delete j) g reach =
-      gets-through (Delete j) g (trap_flag p (Object k) h trap (value_of_key j ∷ [])) (λ said. delete_said p (Object k) j said) reach
-      ((keeps-trap_flag (answering p k (Delete j)) p (Object k) h trap (value_of_key j ∷ [])).goes g)
+      gets-through (Delete j) g (trap_flag p k h trap (value_of_key j ∷ [])) (λ said. delete_said p k j said) reach
+      ((keeps-trap_flag (answering p k (Delete j)) p k h trap (value_of_key j ∷ [])).goes g)
       (λ said i w at there. gets-delete_said p k b i w at there j said)
   gets-trapped h trap OwnPropertyKeys g reach =
-      gets-through OwnPropertyKeys g (trap_value p (Object k) h trap []) (λ said. keys_said p (Object k) said) reach
-      ((keeps-trap_value (answering p k OwnPropertyKeys) p (Object k) h trap []).goes g)
+      gets-through OwnPropertyKeys g (trap_value p k h trap []) (λ said. keys_said p k said) reach
+      ((keeps-trap_value (answering p k OwnPropertyKeys) p k h trap []).goes g)
       (λ said i w at there.
-      gets-through OwnPropertyKeys i (list_of p true said) (λ vs. keys_listed p (Object k) (as_keys vs)) there
+      gets-through OwnPropertyKeys i (list_of p true said) (λ vs. keys_listed p k (as_keys vs)) there
       ((keeps-list_of (answering p k OwnPropertyKeys) p true said).goes i)
       (λ vs l x is reaches. gets-keys_listed p k b l x is (as_keys vs) reaches))
   gets-trapped h trap (Call this vs) g reach =
       gets-through (Call this vs) g (make_array p vs)
-      (λ a. trap_value p (Object k) h trap (this ∷ a ∷ []) >>= (λ said. give (Value said))) reach
+      (λ a. trap_value p k h trap (this ∷ a ∷ []) >>= (λ said. give (Value said))) reach
       ((keeps-make_array (answering p k (Call this vs)) p vs).goes g)
       (λ a i w at there.
-      gets-through (Call this vs) i (trap_value p (Object k) h trap (this ∷ a ∷ [])) (λ said. give (Value said)) there
-      ((keeps-trap_value (answering p k (Call this vs)) p (Object k) h trap (this ∷ a ∷ [])).goes i)
+      gets-through (Call this vs) i (trap_value p k h trap (this ∷ a ∷ [])) (λ said. give (Value said)) there
+      ((keeps-trap_value (answering p k (Call this vs)) p k h trap (this ∷ a ∷ [])).goes i)
       (λ said l x is reaches. gets-called (Call this vs) (Value said) l reaches (λ view. tt)))
   gets-trapped h trap (Construct vs target) g reach =
       gets-through (Construct vs target) g (make_array p vs)
-      (λ a. trap_value p (Object k) h trap (a ∷ target ∷ []) >>= (λ said. construct_said p said)) reach
+      (λ a. trap_value p k h trap (a ∷ target ∷ []) >>= (λ said. construct_said p said)) reach
       ((keeps-make_array (answering p k (Construct vs target)) p vs).goes g)
       (λ a i w at there.
-      gets-through (Construct vs target) i (trap_value p (Object k) h trap (a ∷ target ∷ [])) (λ said. construct_said p said) there
-      ((keeps-trap_value (answering p k (Construct vs target)) p (Object k) h trap (a ∷ target ∷ [])).goes i)
+      gets-through (Construct vs target) i (trap_value p k h trap (a ∷ target ∷ [])) (λ said. construct_said p said) there
+      ((keeps-trap_value (answering p k (Construct vs target)) p k h trap (a ∷ target ∷ [])).goes i)
       (λ said l x is reaches. gets-construct_said vs target said l reaches))
 
-  gets-call_trap : (h trap : Val) (m : Method) (c : Bool) (g : Graph) → Reaches b g → Going m g (call_trap p (Object k) h trap m c)
+  gets-call_trap : (h trap : Val) (m : Method) (c : Bool) (g : Graph) → Reaches b g → Going m g (call_trap p k h trap m c)
   gets-call_trap h trap m false g reach = gets-fail (answering p k m) (Owed p k m b) g p TypeError
   gets-call_trap h trap m true g reach = gets-trapped h trap m g reach
 
@@ -180,64 +180,64 @@ module _ (p k : ℕ) (b : Graph) (u : Thing) (t : IsTarget k b u) where
   untrapped-owes (Construct vs x) g h w a target reach on passes = ended-owes (Construct vs x) g h a reach on passes
 
   gets-untrapped : (s : ℕ) (m : Method) (g : Graph) (w : Thing) → FitsMethod m → IsTarget k g w → Reaches b g
-      → Going m g (answer (Perform s m (Object k) p false))
+      → Going m g (answer (Perform s m k p false))
   gets-untrapped s m g w fit target reach c base q more =
-      gets-answer (answering p k m) g (Perform s m (Object k) p false) fit c base q
+      gets-answer (answering p k m) g (Perform s m k p false) fit c base q
       (λ a h on known.
-      more a h on (untrapped-owes m g h w a target reach on.1 (known k w refl target.0 target.1 fit reach.0.0).0))
+      more a h on (untrapped-owes m g h w a target reach on.1 (known w target.0 target.1 fit reach.0.0).0))
 
   gets-trap_got : (s : ℕ) (h trap : Val) (m : Method) (g : Graph) (w : Thing) (c : Bool) → is_nullish trap ≡ c → FitsMethod m → IsTarget k g w → Reaches b g
-      → Going m g (trap_got s p (Object k) h m trap)
+      → Going m g (trap_got s p k h m trap)
   gets-trap_got s h trap m g w true e fit target reach = rw e (gets-untrapped s m g w fit target reach)
   gets-trap_got s h trap m g w false e fit target reach = rw e (gets-call_trap h trap m (is_callable g trap) g reach)
 
-  gets-proxy_method : (s : ℕ) (h : Val) (m : Method) → AreFormed b → FitsMethod m → Going m b (proxy_method s p (Object k) h m)
+  gets-proxy_method : (s : ℕ) (h : Val) (m : Method) → AreFormed b → FitsMethod m → Going m b (proxy_method s p k h m)
   gets-proxy_method s h m formed fit =
-      gets-through m b (get p h (Named (op_name (op_of m)))) (λ trap. trap_got s p (Object k) h m trap)
+      gets-through m b (get p h (Named (op_name (op_of m)))) (λ trap. trap_got s p k h m trap)
       ((formed, stays-later b), refl)
       ((keeps-get (answering p k m) p h (Named (op_name (op_of m)))).goes b)
       (λ trap g w target reach. gets-trap_got s h trap m g w (is_nullish trap) refl fit target reach)
 
 -- ---- the whole row
 
-kind-owes : (s v n k p : ℕ) (m : Method) (t u : Thing) (handler : Val) (shape : Shape) (b : Graph) (kind : Kind) → kind ≡ Proxy (Object k) handler shape
+kind-owes : (s v n p : ℕ) (k : Val) (m : Method) (t u : Thing) (handler : Val) (shape : Shape) (b : Graph) (kind : Kind) → kind ≡ Proxy k handler shape
     → p ≡ owner_or s t.owner → IsTarget k b u → AreFormed b → FitsMethod m
     → Gets (answering p k m) (Owed p k m b) b (perform_kind s v (Object n) t m kind)
-kind-owes s v n k p m t u handler shape b kind e owner target formed fit =
+kind-owes s v n p k m t u handler shape b kind e owner target formed fit =
     subst (λ (x : Kind). Gets (answering p k m) (Owed p k m b) b (perform_kind s v (Object n) t m x)) (sym e)
-    (subst (λ (a : ℕ). Gets (answering p k m) (Owed p k m b) b (proxy_method s a (Object k) handler m)) owner
+    (subst (λ (a : ℕ). Gets (answering p k m) (Owed p k m b) b (proxy_method s a k handler m)) owner
     (gets-proxy_method p k b u target s handler m formed fit))
 
-thing-owes : (s v n k p : ℕ) (m : Method) (t u : Thing) (handler : Val) (shape : Shape) (b : Graph) → t.kind ≡ Proxy (Object k) handler shape
+thing-owes : (s v n p : ℕ) (k : Val) (m : Method) (t u : Thing) (handler : Val) (shape : Shape) (b : Graph) → t.kind ≡ Proxy k handler shape
     → p ≡ owner_or s t.owner → IsTarget k b u → AreFormed b → FitsMethod m
     → Gets (answering p k m) (Owed p k m b) b (perform_thing s v (Object n) m (Some t))
-thing-owes s v n k p m t u handler shape b e owner target formed fit =
+thing-owes s v n p k m t u handler shape b e owner target formed fit =
     gets-unless (answering p k m) (Owed p k m b) b s (not (is_cut b v t)) (perform_kind s v (Object n) t m t.kind)
-    (kind-owes s v n k p m t u handler shape b t.kind e owner target formed fit)
+    (kind-owes s v n p k m t u handler shape b t.kind e owner target formed fit)
 
-row-owes : (s v n k p : ℕ) (m : Method) (t u : Thing) (handler : Val) (shape : Shape) (b : Graph) → slice_get b.objects n ≡ Some t
-    → t.kind ≡ Proxy (Object k) handler shape → p ≡ owner_or s t.owner → IsTarget k b u → AreFormed b → FitsMethod m
+row-owes : (s v n p : ℕ) (k : Val) (m : Method) (t u : Thing) (handler : Val) (shape : Shape) (b : Graph) → slice_get b.objects n ≡ Some t
+    → t.kind ≡ Proxy k handler shape → p ≡ owner_or s t.owner → IsTarget k b u → AreFormed b → FitsMethod m
     → Gets (answering p k m) (Owed p k m b) b (perform_row s v (Object n) m)
-row-owes s v n k p m t u handler shape b at e owner target formed fit =
+row-owes s v n p k m t u handler shape b at e owner target formed fit =
     subst (λ (x : Option Thing). Gets (answering p k m) (Owed p k m b) b (perform_thing s v (Object n) m x)) (sym at)
-    (thing-owes s v n k p m t u handler shape b e owner target formed fit)
+    (thing-owes s v n p k m t u handler shape b e owner target formed fit)
 
 -- an entry more changes no object
-noted-owes : (p k began s : ℕ) (o : Val) (m : Method) (b : Graph) (q : Outcome) (g : Graph) → Along (answering p k m) b g → Owes p k m b q g
+noted-owes : (p : ℕ) (k : Val) (began s : ℕ) (o : Val) (m : Method) (b : Graph) (q : Outcome) (g : Graph) → Along (answering p k m) b g → Owes p k m b q g
     → Along (answering p k m) b (method_noted began s o m q g) × Owes p k m b q (method_noted began s o m q g)
 noted-owes p k began s o m b q g along owes = (
   along-log (answering p k m) b g (method_noted began s o m q g).log along,
   record { moment = owes.moment; begun = owes.begun; ended = owes.ended; rules = owes.rules; passes = owes.passes },
 )
 
-end-between : (p k : ℕ) (m : Method) (b : Graph) (x : Ends) → EndOwed (answering p k m) b x → EndBetween p k m b x
+end-between : (p : ℕ) (k : Val) (m : Method) (b : Graph) (x : Ends) → EndOwed (answering p k m) b x → EndBetween p k m b x
 end-between p k m b (Gives q g f) h = h.1
 end-between p k m b (Spent g f) h = tt
 
-given-between : (s v n k p : ℕ) (m : Method) (enters : Bool) (t u : Thing) (handler : Val) (shape : Shape) (b : Graph) (f : ℕ) → slice_get b.objects n ≡ Some t
-    → t.kind ≡ Proxy (Object k) handler shape → p ≡ owner_or s t.owner → IsTarget k b u → FitsMethod m → AreFormed b
+given-between : (s v n p : ℕ) (k : Val) (m : Method) (enters : Bool) (t u : Thing) (handler : Val) (shape : Shape) (b : Graph) (f : ℕ) → slice_get b.objects n ≡ Some t
+    → t.kind ≡ Proxy k handler shape → p ≡ owner_or s t.owner → IsTarget k b u → FitsMethod m → AreFormed b
     → EndBetween p k m b (given row (Perform s m (Object n) v enters) b f)
-given-between s v n k p m enters t u handler shape b f at e owner target fit formed =
+given-between s v n p k m enters t u handler shape b f at e owner target fit formed =
     let o : Val = Object n in
     let along : Along (answering p k m) b b = (λ a x. x, ((formed, stays-later b), refl)) in
     subst (EndBetween p k m b) (sym (given-row row (Perform s m o v enters) b f))
@@ -245,9 +245,9 @@ given-between s v n k p m enters t u handler shape b f at e owner target fit for
     (exec-owed (answering p k m) (given row) (does-so p k m) b false (row (Perform s m o v enters) b) f
     (entering-holds (answering p k m) b (makes_entry enters s o b) (method_noted (entries_made b) s o m) (perform_row s v o m finished b)
     (noted-owes p k (entries_made b) s o m b)
-    (row-owes s v n k p m t u handler shape b at e owner target formed fit finished b along (λ a g q owed. (q, owed))))))
+    (row-owes s v n p k m t u handler shape b at e owner target formed fit finished b along (λ a g q owed. (q, owed))))))
 
 pub proxy-entries-pass : ProxyEntriesPass
-proxy-entries-pass s v n k m enters t u handler shape graph zero at e target ordinary fit formed = tt
-proxy-entries-pass s v n k m enters t u handler shape graph (suc f) at e target ordinary fit formed =
-    given-between s v n k (owner_or s t.owner) m enters t u handler shape graph f at e refl (target, ordinary) fit formed
+proxy-entries-pass s v n target handler shape m enters t u graph zero at e there ordinary fit formed = tt
+proxy-entries-pass s v n target handler shape m enters t u graph (suc f) at e there ordinary fit formed =
+    given-between s v n (owner_or s t.owner) target m enters t u handler shape graph f at e refl (there, ordinary) fit formed

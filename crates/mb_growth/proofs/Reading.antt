@@ -24,7 +24,7 @@ use Rattle.mb_growth.specs.Answered.{EntryPasses, PassesAtMoment, EndPasses, Pas
 use Rattle.mb_growth.proofs.Graphs.{stays-later, goes-on-later}
 use Rattle.mb_growth.proofs.Runs.{Grows, grows-on, growing}
 use Rattle.mb_growth.proofs.Ends.{RowEnds, TaskEnds, ends-any, ends-entering, ends-pays, means-ends}
-use Rattle.mb_growth.proofs.Answered.{ordinary-entries-pass}
+use Rattle.mb_growth.proofs.BuiltIns.{ordinary-entries-pass}
 
 -- ---- what ends without an answer passes
 
@@ -81,8 +81,8 @@ ReadSo _ v u s q after = Unit {0}
 
 -- of a method on an object that is no script-made Proxy
 abbrev pub MethodKnown : Method → Val → ℕ → Graph → Outcome → Graph → Type 0
-MethodKnown m o v s q after = (k : ℕ) (u : Thing) → o ≡ Object k → slice_get s.objects k ≡ Some u → is_proxy_kind u.kind ≡ false
-    → FitsMethod m → AreFormed s → PassesAtMoment v k m u s q after × ReadSo m v u s q after
+MethodKnown m o v s q after = (u : Thing) → thing_at s o ≡ Some u → is_proxy_kind u.kind ≡ false
+    → FitsMethod m → AreFormed s → PassesAtMoment v o m u s q after × ReadSo m v u s q after
 
 abbrev pub TaskKnown : Task → Graph → Outcome → Graph → Type 0
 TaskKnown (Perform a m o v enters) s q after = MethodKnown m o v s q after
@@ -111,8 +111,8 @@ thrown-so (Construct vs target) v u s w after = tt
 answered-reads : (s : Graph) (a : Answer) → Reads s a (Normal a) s
 answered-reads s a x e = let same : a ≡ x = cc in (sym same, refl, refl)
 
-kind-reads : (a v k : ℕ) (m : Method) (u : Thing) (s : Graph) (kind : Kind) → is_proxy_kind kind ≡ false
-    → RowEnds (ReadSo m v u s) (perform_kind a v (Object k) u m kind finished s)
+kind-reads : (a v : ℕ) (k : Val) (m : Method) (u : Thing) (s : Graph) (kind : Kind) → is_proxy_kind kind ≡ false
+    → RowEnds (ReadSo m v u s) (perform_kind a v k u m kind finished s)
 kind-reads a v k m u s (Proxy target handler shape) no_proxy = absurd (let bad : true ≡ false = no_proxy in cc)
 kind-reads a v k m u s (Gone shape) no_proxy = absurd (let bad : true ≡ false = no_proxy in cc)
 kind-reads a v k GetPrototypeOf u s _ no_proxy = answered-reads s (Value u.prototype)
@@ -122,31 +122,31 @@ kind-reads a v k OwnPropertyKeys u s _ no_proxy =
     ends-pays (ReadSo OwnPropertyKeys v u s) (shown_keys s v u) (λ _. give (Keys (shown_keys s v u)) finished) s
     (answered-reads s (Keys (shown_keys s v u)))
 kind-reads a v k (SetPrototypeOf p) u s kind no_proxy =
-    ends-any (ReadSo (SetPrototypeOf p) v u s) (λ q g. tt) (perform_kind a v (Object k) u (SetPrototypeOf p) kind finished s)
+    ends-any (ReadSo (SetPrototypeOf p) v u s) (λ q g. tt) (perform_kind a v k u (SetPrototypeOf p) kind finished s)
 kind-reads a v k PreventExtensions u s kind no_proxy =
-    ends-any (ReadSo PreventExtensions v u s) (λ q g. tt) (perform_kind a v (Object k) u PreventExtensions kind finished s)
+    ends-any (ReadSo PreventExtensions v u s) (λ q g. tt) (perform_kind a v k u PreventExtensions kind finished s)
 kind-reads a v k (DefineOwnProperty i d) u s kind no_proxy =
-    ends-any (ReadSo (DefineOwnProperty i d) v u s) (λ q g. tt) (perform_kind a v (Object k) u (DefineOwnProperty i d) kind finished s)
+    ends-any (ReadSo (DefineOwnProperty i d) v u s) (λ q g. tt) (perform_kind a v k u (DefineOwnProperty i d) kind finished s)
 kind-reads a v k (HasProperty i) u s kind no_proxy =
-    ends-any (ReadSo (HasProperty i) v u s) (λ q g. tt) (perform_kind a v (Object k) u (HasProperty i) kind finished s)
+    ends-any (ReadSo (HasProperty i) v u s) (λ q g. tt) (perform_kind a v k u (HasProperty i) kind finished s)
 kind-reads a v k (Get i r) u s kind no_proxy =
-    ends-any (ReadSo (Get i r) v u s) (λ q g. tt) (perform_kind a v (Object k) u (Get i r) kind finished s)
+    ends-any (ReadSo (Get i r) v u s) (λ q g. tt) (perform_kind a v k u (Get i r) kind finished s)
 kind-reads a v k (Set i x r) u s kind no_proxy =
-    ends-any (ReadSo (Set i x r) v u s) (λ q g. tt) (perform_kind a v (Object k) u (Set i x r) kind finished s)
+    ends-any (ReadSo (Set i x r) v u s) (λ q g. tt) (perform_kind a v k u (Set i x r) kind finished s)
 kind-reads a v k (Delete i) u s kind no_proxy =
-    ends-any (ReadSo (Delete i) v u s) (λ q g. tt) (perform_kind a v (Object k) u (Delete i) kind finished s)
+    ends-any (ReadSo (Delete i) v u s) (λ q g. tt) (perform_kind a v k u (Delete i) kind finished s)
 kind-reads a v k (Call this vs) u s kind no_proxy =
-    ends-any (ReadSo (Call this vs) v u s) (λ q g. tt) (perform_kind a v (Object k) u (Call this vs) kind finished s)
+    ends-any (ReadSo (Call this vs) v u s) (λ q g. tt) (perform_kind a v k u (Call this vs) kind finished s)
 kind-reads a v k (Construct vs target) u s kind no_proxy =
-    ends-any (ReadSo (Construct vs target) v u s) (λ q g. tt) (perform_kind a v (Object k) u (Construct vs target) kind finished s)
+    ends-any (ReadSo (Construct vs target) v u s) (λ q g. tt) (perform_kind a v k u (Construct vs target) kind finished s)
 
-unless-reads : (a v k : ℕ) (m : Method) (u : Thing) (s : Graph) (b : Bool) → is_proxy_kind u.kind ≡ false
-    → RowEnds (ReadSo m v u s) ((unless_type_error a b >>= (λ _. perform_kind a v (Object k) u m u.kind)) finished s)
+unless-reads : (a v : ℕ) (k : Val) (m : Method) (u : Thing) (s : Graph) (b : Bool) → is_proxy_kind u.kind ≡ false
+    → RowEnds (ReadSo m v u s) ((unless_type_error a b >>= (λ _. perform_kind a v k u m u.kind)) finished s)
 unless-reads a v k m u s true no_proxy = kind-reads a v k m u s u.kind no_proxy
 unless-reads a v k m u s false no_proxy = thrown-so m v u s _ _
 
-noted-reads : (a v k : ℕ) (m : Method) (u : Thing) (s : Graph) (began : ℕ) (q : Outcome) (h : Graph) → ReadSo m v u s q h
-    → ReadSo m v u s q (method_noted began a (Object k) m q h)
+noted-reads : (a v : ℕ) (k : Val) (m : Method) (u : Thing) (s : Graph) (began : ℕ) (q : Outcome) (h : Graph) → ReadSo m v u s q h
+    → ReadSo m v u s q (method_noted began a k m q h)
 noted-reads a v k GetPrototypeOf u s began q h p = p
 noted-reads a v k (SetPrototypeOf x) u s began q h p = p
 noted-reads a v k IsExtensible u s began q h p = p
@@ -161,13 +161,13 @@ noted-reads a v k OwnPropertyKeys u s began q h p = p
 noted-reads a v k (Call this vs) u s began q h p = p
 noted-reads a v k (Construct vs target) u s began q h p = p
 
-means-reads : (a v k : ℕ) (m : Method) (enters : Bool) (u : Thing) (s : Graph) (f : ℕ) → slice_get s.objects k ≡ Some u
-    → is_proxy_kind u.kind ≡ false → TaskEnds (ReadSo m v u s) (Means (Perform a m (Object k) v enters) s f)
+means-reads : (a v : ℕ) (k : Val) (m : Method) (enters : Bool) (u : Thing) (s : Graph) (f : ℕ) → thing_at s k ≡ Some u
+    → is_proxy_kind u.kind ≡ false → TaskEnds (ReadSo m v u s) (Means (Perform a m k v enters) s f)
 means-reads a v k m enters u s f at no_proxy =
-    means-ends (ReadSo m v u s) (Perform a m (Object k) v enters) s f
-    (ends-entering (ReadSo m v u s) (makes_entry enters a (Object k) s) (method_noted (entries_made s) a (Object k) m)
-    (noted-reads a v k m u s (entries_made s)) (perform_row a v (Object k) m finished s)
-    (subst (λ (x : Option Thing). RowEnds (ReadSo m v u s) (perform_thing a v (Object k) m x finished s)) (sym at)
+    means-ends (ReadSo m v u s) (Perform a m k v enters) s f
+    (ends-entering (ReadSo m v u s) (makes_entry enters a k s) (method_noted (entries_made s) a k m)
+    (noted-reads a v k m u s (entries_made s)) (perform_row a v k m finished s)
+    (subst (λ (x : Option Thing). RowEnds (ReadSo m v u s) (perform_thing a v k m x finished s)) (sym at)
     (unless-reads a v k m u s (not (is_cut s v u)) no_proxy)))
 
 -- ---- rows that reach a graph, and what they owe
@@ -179,18 +179,18 @@ pub reaches-on : (f g h : Graph) → Reaches f g → Reaches g h → Reaches f h
 reaches-on f g h p q = (grows-on f g h p.0 q.0, q.1 ∙ p.1)
 
 -- owed where a row of a Proxy's method ends
-abbrev pub Owes : ℕ → ℕ → Method → Graph → Outcome → Graph → Type 0
+abbrev pub Owes : ℕ → Val → Method → Graph → Outcome → Graph → Type 0
 Owes p k m b q g = PassesBetween p k m b q g
 
-pub owes-now : (p k : ℕ) (m : Method) (b g : Graph) (q : Outcome) → Reaches b g
-    → ((u : Thing) → slice_get g.objects k ≡ Some u → EntryPasses m q (Shown g p u)) → Owes p k m b q g
+pub owes-now : (p : ℕ) (k : Val) (m : Method) (b g : Graph) (q : Outcome) → Reaches b g
+    → ((u : Thing) → thing_at g k ≡ Some u → EntryPasses m q (Shown g p u)) → Owes p k m b q g
 owes-now p k m b g q h passes =
     record { moment = g; begun = h.0.1; ended = stays-later g; rules = h.1; passes = passes }
 
 pub with_thing-rules : (g : Graph) (o : Val) (u : Thing) → (with_thing o u g).rules ≡ g.rules
 with_thing-rules g o u = beside-objects (λ h. h.rules ≡ g.rules) g o u (λ ts. refl) refl
 
-abbrev pub answering : ℕ → ℕ → Method → Kept
+abbrev pub answering : ℕ → Val → Method → Kept
 answering p k m = record {
   cares = Unit {0};
   to = Reaches;
@@ -225,17 +225,17 @@ reaching = record {
 }
 
 -- both facts of a task that ended
-with-known : (p k : ℕ) (m : Method) (t : Task) (s : Graph) (x : Ends) → EndKnown reaching t s x
+with-known : (p : ℕ) (k : Val) (m : Method) (t : Task) (s : Graph) (x : Ends) → EndKnown reaching t s x
     → TaskEnds (TaskKnown t s) x → EndKnown (answering p k m) t s x
 with-known p k m t s (Gives q g f) h known = (h.0, known)
 with-known p k m t s (Spent g f) h known = h
 
 method-known : (a v : ℕ) (m : Method) (o : Val) (enters : Bool) (s : Graph) (f : ℕ) (x : Ends)
-    → ((k : ℕ) (u : Thing) → o ≡ Object k → slice_get s.objects k ≡ Some u → is_proxy_kind u.kind ≡ false → FitsMethod m → AreFormed s
-    → EndPasses v k m u s x × TaskEnds (ReadSo m v u s) x)
+    → ((u : Thing) → thing_at s o ≡ Some u → is_proxy_kind u.kind ≡ false → FitsMethod m → AreFormed s
+    → EndPasses v o m u s x × TaskEnds (ReadSo m v u s) x)
     → TaskEnds (TaskKnown (Perform a m o v enters) s) x
 method-known a v m o enters s f (Gives q g l) h =
-    λ k u e at no_proxy fit formed. let both = h k u e at no_proxy fit formed in (both.0, both.1)
+    λ u at no_proxy fit formed. let both = h u at no_proxy fit formed in (both.0, both.1)
 method-known a v m o enters s f (Spent g l) h = tt
 
 any-known : (x : Ends) → TaskEnds (λ q s. Unit {0}) x
@@ -245,10 +245,8 @@ any-known (Spent s f) = tt
 task-known : (t : Task) (s : Graph) (f : ℕ) → TaskEnds (TaskKnown t s) (Means t s f)
 task-known (Perform a m o v enters) s f =
     method-known a v m o enters s f (Means (Perform a m o v enters) s f)
-    (λ k u e at no_proxy fit formed.
-    subst (λ (w : Val). EndPasses v k m u s (Means (Perform a m w v enters) s f)
-    × TaskEnds (ReadSo m v u s) (Means (Perform a m w v enters) s f)) (sym e)
-    (ordinary-entries-pass a v k m enters u s f at no_proxy fit formed, means-reads a v k m enters u s f at no_proxy))
+    (λ u at no_proxy fit formed.
+        (ordinary-entries-pass a v o m enters u s f at no_proxy fit formed, means-reads a v o m enters u s f at no_proxy))
 task-known (Evaluate a b c d) s f = any-known (Means (Evaluate a b c d) s f)
 task-known (Loop a b c d) s f = any-known (Means (Loop a b c d) s f)
 task-known (Chain a b c) s f = any-known (Means (Chain a b c) s f)
@@ -259,7 +257,7 @@ task-known (Access a b c d) s f = any-known (Means (Access a b c d) s f)
 task-known (Visit a b c d e i) s f = any-known (Means (Visit a b c d e i) s f)
 
 -- the meaning does so
-pub does-so : (p k : ℕ) (m : Method) → DoesSo (answering p k m) (given row)
+pub does-so : (p : ℕ) (k : Val) (m : Method) → DoesSo (answering p k m) (given row)
 does-so p k m t s f fit a =
     with-known p k m t s (given row t s f)
     (given-known reaching (record { owes = λ b g o h. tt; knows = λ u b g o. tt }) t s f fit a) (task-known t s (suc f))

@@ -35,7 +35,7 @@ passes-by d view h = ordinary-passes same_key same_value Undefined value-refl d 
 abbrev SaidPasses : Deed PropertyKey Val → View PropertyKey Val → Type 0
 SaidPasses d view = Passes same_key same_value Undefined d view
 
-pub throw-passes : (s n : ℕ) (m : Method) (t : Thing) (g : Graph) (v : Val) (after : Graph) → PassesAtMoment s n m t g (Throw v) after
+pub throw-passes : (s : ℕ) (n : Val) (m : Method) (t : Thing) (g : Graph) (v : Val) (after : Graph) → PassesAtMoment s n m t g (Throw v) after
 throw-passes s n GetPrototypeOf t g v after = λ u at. tt
 throw-passes s n (SetPrototypeOf p) t g v after = λ u at. tt
 throw-passes s n IsExtensible t g v after = λ u at. tt

@@ -8,7 +8,7 @@ use Rattle.mb_world.specs.declared.entry.Op.TheVariants.{Has, Get as GetOp, Set 
 use Rattle.mb_world.specs.Value.{Val, Undefined, Object, same_value}
 use Rattle.mb_world.specs.Key.{PropertyKey, same_key}
 use Rattle.mb_world.specs.Graph.{Graph, Thing, Proxy, Entry}
-use Rattle.mb_world.specs.Objects.{is_proxy_kind}
+use Rattle.mb_world.specs.Objects.{thing_at, is_proxy_kind}
 use Rattle.mb_world.specs.View.{Shown, owner_or}
 use Rattle.mb_model.specs.Engine.{Gives, Spent}
 use Rattle.mb_model.specs.Task.{Method, HasProperty, Get, Set, Perform, Outcome}
@@ -26,48 +26,48 @@ EntryPasses m q view = Passes same_key same_value Undefined
     (deed_by (op_of m) (key_of_method m) (given_of m) (said_outcome q)) view
 
 -- against what the side sees as the method ends
-abbrev pub PassesAsItEnds : ℕ → ℕ → Method → Outcome → Graph → Type 0
-PassesAsItEnds v n m q after = (u : Thing) → slice_get after.objects n ≡ Some u → EntryPasses m q (Shown after v u)
+abbrev pub PassesAsItEnds : ℕ → Val → Method → Outcome → Graph → Type 0
+PassesAsItEnds v o m q after = (u : Thing) → thing_at after o ≡ Some u → EntryPasses m q (Shown after v u)
 
 -- `has`, `get` and `set` read the own property first, and what follows may change the object: they pass against what
 -- the side sees as they begin. A call, a construction and a throw tell nothing
-abbrev pub PassesAtMoment : ℕ → ℕ → Method → Thing → Graph → Outcome → Graph → Type 0
-PassesAtMoment v n (HasProperty k) t before q after = EntryPasses (HasProperty k) q (Shown before v t)
-PassesAtMoment v n (Get k r) t before q after = EntryPasses (Get k r) q (Shown before v t)
-PassesAtMoment v n (Set k x r) t before q after = EntryPasses (Set k x r) q (Shown before v t)
-PassesAtMoment v n m t before q after = PassesAsItEnds v n m q after
+abbrev pub PassesAtMoment : ℕ → Val → Method → Thing → Graph → Outcome → Graph → Type 0
+PassesAtMoment v o (HasProperty k) t before q after = EntryPasses (HasProperty k) q (Shown before v t)
+PassesAtMoment v o (Get k r) t before q after = EntryPasses (Get k r) q (Shown before v t)
+PassesAtMoment v o (Set k x r) t before q after = EntryPasses (Set k x r) q (Shown before v t)
+PassesAtMoment v o m t before q after = PassesAsItEnds v o m q after
 
 -- a spent method makes no entry
-abbrev pub EndPasses : ℕ → ℕ → Method → Thing → Graph → Ends → Type 0
-EndPasses v n m t before (Gives q after fuel) = PassesAtMoment v n m t before q after
-EndPasses v n m t before (Spent after fuel) = Unit {0}
+abbrev pub EndPasses : ℕ → Val → Method → Thing → Graph → Ends → Type 0
+EndPasses v o m t before (Gives q after fuel) = PassesAtMoment v o m t before q after
+EndPasses v o m t before (Spent after fuel) = Unit {0}
 
 -- a method of an object that is no script-made Proxy, done by side s with the view of v, which is its own where it
 -- makes an entry
 abbrev pub OrdinaryEntriesPass : Type 0
-OrdinaryEntriesPass = (s v n : ℕ) (m : Method) (enters : Bool) (t : Thing) (graph : Graph) (fuel : ℕ)
-    → slice_get graph.objects n ≡ Some t → is_proxy_kind t.kind ≡ false → FitsMethod m → AreFormed graph
-    → EndPasses v n m t graph (Means (Perform s m (Object n) v enters) graph fuel)
+OrdinaryEntriesPass = (s v : ℕ) (o : Val) (m : Method) (enters : Bool) (t : Thing) (graph : Graph) (fuel : ℕ)
+    → thing_at graph o ≡ Some t → is_proxy_kind t.kind ≡ false → FitsMethod m → AreFormed graph
+    → EndPasses v o m t graph (Means (Perform s m o v enters) graph fuel)
 
 -- a moment between two graphs at which an answer passes, against what side p sees of the object then
-pub record PassesBetween (p n : ℕ) (m : Method) (before : Graph) (q : Outcome) (after : Graph) : Type 0 where
+pub record PassesBetween (p : ℕ) (o : Val) (m : Method) (before : Graph) (q : Outcome) (after : Graph) : Type 0 where
   pub moment : Graph
   pub begun : EachEvolves before moment
   pub ended : EachEvolves moment after
   pub rules : moment.rules ≡ before.rules
-  pub passes : (u : Thing) → slice_get moment.objects n ≡ Some u → EntryPasses m q (Shown moment p u)
+  pub passes : (u : Thing) → thing_at moment o ≡ Some u → EntryPasses m q (Shown moment p u)
 
-abbrev pub EndBetween : ℕ → ℕ → Method → Graph → Ends → Type 0
-EndBetween p n m before (Gives q after fuel) = PassesBetween p n m before q after
-EndBetween p n m before (Spent after fuel) = Unit {0}
+abbrev pub EndBetween : ℕ → Val → Method → Graph → Ends → Type 0
+EndBetween p o m before (Gives q after fuel) = PassesBetween p o m before q after
+EndBetween p o m before (Spent after fuel) = Unit {0}
 
 -- a method of a script-made Proxy passes against what the Proxy's owner sees of the target at some moment before it
 -- ends; no Proxy has a Proxy as its target
 abbrev pub ProxyEntriesPass : Type 0
-ProxyEntriesPass = (s v n k : ℕ) (m : Method) (enters : Bool) (t u : Thing) (handler : Val) (shape : Shape)
-    (graph : Graph) (fuel : ℕ) → slice_get graph.objects n ≡ Some t → t.kind ≡ Proxy (Object k) handler shape
-    → slice_get graph.objects k ≡ Some u → is_proxy_kind u.kind ≡ false → FitsMethod m → AreFormed graph
-    → EndBetween (owner_or s t.owner) k m graph (Means (Perform s m (Object n) v enters) graph fuel)
+ProxyEntriesPass = (s v n : ℕ) (target handler : Val) (shape : Shape) (m : Method) (enters : Bool) (t u : Thing)
+    (graph : Graph) (fuel : ℕ) → slice_get graph.objects n ≡ Some t → t.kind ≡ Proxy target handler shape
+    → thing_at graph target ≡ Some u → is_proxy_kind u.kind ≡ false → FitsMethod m → AreFormed graph
+    → EndBetween (owner_or s t.owner) target m graph (Means (Perform s m (Object n) v enters) graph fuel)
 
 -- ---- the checks of a Proxy's traps
 

@@ -62,7 +62,6 @@ pub fn tasks_must_fit()
 
 /// What a method of a script-made Proxy answers passes the checks against what the Proxy's owner sees of the target at
 /// some moment from its begin to its end: as the checks read it, or, without a trap, at that of the target's method.
-/// The target is an object of a script.
 pub fn proxy_entries_pass()
     ensures { ProxyEntriesPass }
 {}
