@@ -246,7 +246,7 @@ task-known : (t : Task) (s : Graph) (f : ℕ) → TaskEnds (TaskKnown t s) (Mean
 task-known (Perform a m o v enters) s f =
     method-known a v m o enters s f (Means (Perform a m o v enters) s f)
     (λ u at no_proxy fit formed.
-        (ordinary-entries-pass a v o m enters u s f at no_proxy fit formed, means-reads a v o m enters u s f at no_proxy))
+    (ordinary-entries-pass a v o m enters u s f at no_proxy fit formed, means-reads a v o m enters u s f at no_proxy))
 task-known (Evaluate a b c d) s f = any-known (Means (Evaluate a b c d) s f)
 task-known (Loop a b c d) s f = any-known (Means (Loop a b c d) s f)
 task-known (Chain a b c) s f = any-known (Means (Chain a b c) s f)
