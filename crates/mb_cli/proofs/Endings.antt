@@ -4,7 +4,8 @@ use Rattle.std.specs.Prelude.{◌⊎◌, ◌↔◌, IsSome}
 use Rattle.mb_outer.specs.Causes.{IsRaised}
 use Rattle.mb_lexer.specs.Feeding.{Lexing, Fed}
 use Rattle.mb_cli.specs.Sides.{left_side}
-use Rattle.mb_cli.specs.Trees.{HasTree, ScriptFault}
+use Rattle.mb_load_tree.specs.Trees.{HasTree}
+use Rattle.mb_cli.specs.Trees.{ScriptFault}
 use Rattle.mb_cli.specs.Serving.{IsOnly, IsAnswer, Receives, PutsFront, IsPut, Leaves, TellsFaults, IsFaultless, HasRoom}
 use Rattle.mb_cli.specs.Tasks.{Task, running, checking, IsThere, PassesCheck, EndsCheck, Ends, Writes, right_line}
 use Rattle.mb_cli.specs.first_form.Text.{text_of}

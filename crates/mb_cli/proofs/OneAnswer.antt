@@ -22,7 +22,8 @@ use Rattle.mb_cli.specs.declared.status.ScriptKind.{ScriptKind}
 use Rattle.mb_cli.specs.declared.status.ScriptKind.TheVariants as k
 use Rattle.mb_cli.specs.declared.tree.TreeFault.TheVariants.{Bad}
 use Rattle.mb_cli.specs.machine.TreeFaults.{of_lexer, of_rules}
-use Rattle.mb_cli.specs.Trees.{highest, AreTokens, Parses, HasTree, HasNoScript, IsTooHigh, BreaksFirst, ScriptFault}
+use Rattle.mb_load_tree.specs.Trees.{highest, AreTokens, Parses, HasTree}
+use Rattle.mb_cli.specs.Trees.{HasNoScript, IsTooHigh, BreaksFirst, ScriptFault}
 use Rattle.mb_scope.proofs.Ruling.{one_least_fault}
 use Rattle.mb_scope.proofs.Deciding.{right_or_least}
 use Rattle.mb_parse_stmt.proofs.Once.{one_script}

@@ -20,7 +20,8 @@ use Rattle.mb_cli.specs.declared.status.ScriptKind.TheVariants as kind
 use Rattle.mb_cli.specs.declared.tree.TreeFault.{TreeFault}
 use Rattle.mb_cli.specs.declared.tree.TreeFault.TheVariants.{Bad}
 use Rattle.mb_cli.specs.machine.TreeFaults.{of_lexer, of_parser, of_rules}
-use Rattle.mb_cli.specs.Trees.{highest, AreTokens, Parses, ReadsAs, HasTree, ScriptFault}
+use Rattle.mb_load_tree.specs.Trees.{highest, AreTokens, Parses, ReadsAs, HasTree}
+use Rattle.mb_cli.specs.Trees.{ScriptFault}
 
 -- what a `?` answers is what it makes of the fault
 pub made_of : {T : Type 0} (r : Result T TreeFault) (made fault : TreeFault) → IsErrAnd r (λ y. y ≡ made) → r ≡ Err fault → made ≡ fault

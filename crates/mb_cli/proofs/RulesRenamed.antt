@@ -16,7 +16,7 @@ use Rattle.mb_scope.specs.declared.jump.Jump.{Jump}
 use Rattle.mb_scope.specs.declared.jump.Jump.TheVariants as j
 use Rattle.mb_scope.specs.declared.target.TargetType.TheVariants.{Simple, Grouped}
 use Rattle.mb_scope.specs.declared.target.Use.{Use}
-use Rattle.mb_scope.specs.declared.target.Use.TheVariants.{Assigns, Deletes, Reads}
+use Rattle.mb_scope.specs.declared.target.Use.TheVariants.{Assigns, Deletes, Plain}
 use Rattle.mb_scope.specs.declared.fault.NameFault.{NameFault}
 use Rattle.mb_scope.specs.declared.fault.NameFault.TheVariants.{Twice, Stray, BadTarget, NoMemory}
 use Rattle.mb_scope.specs.Kinds.{declares_of, is_decl, is_function, is_loop, jump_of, target_type_of, use_of, is_property, group_part, operand_of}
@@ -163,7 +163,7 @@ module _ (f : StrId → StrId) where
     misses_renamed usage None m = m
     misses_renamed Assigns (Some operand) m = λ q. m (target_before q)
     misses_renamed Deletes (Some operand) m = λ q. m (property_before operand q)
-    misses_renamed Reads (Some operand) m = m
+    misses_renamed Plain (Some operand) m = m
 
     bad_renamed : (id : NodeId) → IsBadTarget shapes id → IsBadTarget others id
     bad_renamed id b = record {

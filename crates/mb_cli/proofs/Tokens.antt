@@ -15,7 +15,7 @@ use Rattle.mb_lexer.proofs.Parting.{width-append}
 use Rattle.mb_lexer.proofs.Tiling.{width-bytes}
 use Rattle.mb_token.specs.declared.token.Spanned.{Spanned}
 use Rattle.mb_text.specs.Texts.{AreDistinct}
-use Rattle.mb_cli.specs.Trees.{AreTokens}
+use Rattle.mb_load_tree.specs.Trees.{AreTokens}
 
 mark_some : (k : Mark) → [] ≡ mark_text k → ⊥
 mark_some m.TripleEqual e = cc

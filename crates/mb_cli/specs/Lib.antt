@@ -2,7 +2,6 @@ pub mod ExitCode
 pub mod Serving
 pub mod Settings
 pub mod Sides
-pub mod Standing
 pub mod Tasks
 pub mod Trees
 pub mod first_form

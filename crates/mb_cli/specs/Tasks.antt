@@ -5,7 +5,8 @@ use Rattle.std.specs.declared.alloc.Global.{Global}
 use Rattle.mb_outer.specs.Shelf.{Shelf, held}
 use Rattle.mb_cli.specs.Settings.{Settings, run, check, settings_of}
 use Rattle.mb_cli.specs.Sides.{left_side}
-use Rattle.mb_cli.specs.Trees.{longest_script, HasTree, ScriptFault}
+use Rattle.mb_load_tree.specs.Trees.{HasTree}
+use Rattle.mb_cli.specs.Trees.{longest_script, ScriptFault}
 use Rattle.mb_cli.specs.first_form.Prints.{EndsRun, Printed}
 use Rattle.mb_cli.specs.declared.status.ScriptKind.{ScriptKind}
 use Rattle.mb_cli.specs.declared.status.Which.TheVariants.{Script}

@@ -5,7 +5,7 @@ ghost use Rattle.mb_outer.specs.Shelf.{Shelf};
 ghost use Rattle.mb_words.specs.declared.fault.WordsKind.{WordsKind};
 ghost use Rattle.mb_cli.specs.Serving.{IsAnswer, IsPut, Receives, Leaves, TellsFaults, IsFaultless, HasRoom, OnRead};
 ghost use Rattle.mb_cli.specs.Settings.{settings_of};
-ghost use Rattle.mb_cli.specs.Standing.{IsFresh};
+ghost use Rattle.mb_world.specs.Data.{fresh};
 ghost use Rattle.mb_cli.specs.Tasks.{OnTask, IsThere, Writes, left_of, task_of};
 ghost use Rattle.mb_cli.specs.machine.Commands.{meant_by};
 ghost use Rattle.mb_cli.specs.machine.Lines.{contents_of};
@@ -17,9 +17,9 @@ use crate::puts::put_lines;
 use crate::refusal::Refusal;
 use crate::status::Status;
 use crate::words::{Command, command_of};
-use crate::world::World;
 use mb_outer::{Library, Put, Sink};
 use mb_words::WordsFault;
+use mb_world::World;
 use std::alloc::Global;
 
 // The lines that a command puts.
@@ -62,7 +62,7 @@ pub fn serve<L: Library, K: Sink>(
     sink: &mut K,
     world: &mut World,
 ) -> Status
-    requires fresh { IsFresh world.old }
+    requires fresh { world.old ≡ fresh }
 
     // The words.
     ensures words { result ≢ Status.NoMemory → (kind : WordsKind)

@@ -7,7 +7,8 @@ ghost use Rattle.mb_cli.specs.declared.status.Status.TheVariants.{Done, ReadFaul
 ghost use Rattle.mb_cli.specs.declared.status.Which.{Which};
 ghost use Rattle.mb_cli.specs.Serving.{IsAnswer};
 ghost use Rattle.mb_cli.specs.Tasks.{Task, Ends, Writes};
-ghost use Rattle.mb_cli.specs.Trees.{HasTree, ScriptFault};
+ghost use Rattle.mb_load_tree.specs.Trees.{HasTree};
+ghost use Rattle.mb_cli.specs.Trees.{ScriptFault};
 
 /// No bytes have a tree and a fault.
 pub fn never_a_tree_and_a_fault()

@@ -13,7 +13,6 @@ mod status;
 mod tests;
 mod tree;
 mod words;
-mod world;
 
 pub use command::serve;
 pub use first_form::{
@@ -26,12 +25,12 @@ pub use laws::{
 use mb_base::Side;
 use mb_outer::{FileLibrary, WriteSink};
 use mb_words::WordsKind;
+pub use mb_world::World;
 pub use status::{ScriptKind, Status, Which};
 use std::io::ErrorKind;
 use std::process::ExitCode;
 use thiserror::Error;
 pub use tree::{TreeFault, read_tree};
-pub use world::World;
 
 // What a status that isn't an end of a run says on standard error.
 #[derive(Debug, Drop, Error)]

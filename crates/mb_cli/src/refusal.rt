@@ -5,6 +5,7 @@ ghost use Rattle.mb_cli.specs.machine.TreeFaults.{refusal_of};
 use crate::status::{ScriptKind, Status, Which};
 use crate::tree::TreeFault;
 use mb_base::{NoMemory, Side};
+use std::alloc::AllocError;
 
 // Why a text wasn't read.
 #[derive(Clone, Copy, Debug, PartialEq, Eq)]
@@ -20,6 +21,17 @@ impl From<NoMemory> for ReadError {
     ghost from_gives = { λ _ error. error ≡ no_memory };
 
     fn from(_: NoMemory) -> ReadError {
+        ReadError::NoMemory
+    }
+}
+
+impl From<AllocError> for ReadError {
+    ghost use Rattle.std.specs.Prelude.{◌≡◌};
+    ghost use Rattle.mb_cli.specs.declared.refusal.ReadError.TheVariants.{NoMemory as no_memory};
+
+    ghost from_gives = { λ _ error. error ≡ no_memory };
+
+    fn from(_: AllocError) -> ReadError {
         ReadError::NoMemory
     }
 }

@@ -5,7 +5,8 @@ ghost use Rattle.mb_scope.specs.Names.{names_of};
 ghost use Rattle.mb_text.specs.Texts.{AreDistinct, KeepsIds};
 ghost use Rattle.mb_cli.specs.declared.status.ScriptKind.{ScriptKind as Kind};
 ghost use Rattle.mb_lexer.specs.Feeding.{Fed};
-ghost use Rattle.mb_cli.specs.Trees.{AreTokens, ReadsAs, HasTree, ScriptFault};
+ghost use Rattle.mb_load_tree.specs.Trees.{AreTokens, ReadsAs, HasTree};
+ghost use Rattle.mb_cli.specs.Trees.{ScriptFault};
 ghost use Rattle.mb_cli.specs.machine.Scanned.{IsFed};
 
 use crate::status::ScriptKind;
@@ -112,17 +113,6 @@ fn finish_tree(alloc: Global, lexer: Lexer, texts: &mut Texts) -> Result<Program
 {
     let tokens = lexer.finish(texts)?;
     program_of(alloc, &tokens)
-}
-
-// Whether a script has a tree.
-pub fn judge(alloc: Global, bytes: &[u8]) -> Result<(), TreeFault>
-    requires { length bytes.now ≤ 1_048_576 }
-    ensures tree { OnOk result (HasTree bytes.now) }
-    ensures fault { (kind : Kind) → result ≡ Err (TreeFault.Bad kind) → ScriptFault bytes.now kind }
-{
-    let mut texts = Texts::new(alloc);
-    let _program = read_tree(alloc, bytes, &mut texts)?;
-    Ok(())
 }
 
 // Whether a script that was read in pieces has a tree.

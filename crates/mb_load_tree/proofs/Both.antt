@@ -75,19 +75,24 @@ right_distinct =
 
 lines_have_tree : (ls : List (ℕ × ℕ)) → AreSmall ls → HasTree (text_of (first_line (lines_of ls)))
 lines_have_tree ls small =
-    let pieces = first_line (lines_of ls) in
-    record {
-      texts = left.texts;
-      distinct = left_distinct;
-      lexemes = lexemes 0 false pieces;
-      has = have_tokens left.texts pieces (left_stands ls small);
-      tokens = tokens 0 false pieces;
-      seen = seen left.texts pieces 0 false (left_stands ls small);
-      tree = node (bare k.Script) (more first_tree (line_trees ls));
-      script = record { parts = more first_tree (line_trees ls); stand = left_statements (tokens 0 false pieces) ls (from_start (tokens 0 false pieces)); whole = refl };
-      low = left_height ls;
-      right = left_right ls;
-    }
+    let pieces = first_line (lines_of ls) in (
+      left.texts,
+      node (bare k.Script) (more first_tree (line_trees ls)),
+      record {
+        parses = record {
+          tokens = tokens 0 false pieces;
+          are = record {
+            lexemes = lexemes 0 false pieces;
+            has = have_tokens left.texts pieces (left_stands ls small);
+            seen = seen left.texts pieces 0 false (left_stands ls small);
+            distinct = left_distinct;
+          };
+          script = record { parts = more first_tree (line_trees ls); stand = left_statements (tokens 0 false pieces) ls (from_start (tokens 0 false pieces)); whole = refl };
+        };
+        low = left_height ls;
+        right = left_right ls;
+      },
+    )
 
 left_has_tree : (start size : ℕ) → size ≤ 5000 → HasTree (left_script start size)
 left_has_tree start size most =
@@ -95,18 +100,24 @@ left_has_tree start size most =
     (lines_have_tree (drawn start size) (drawn_small start size most))
 
 right_has_tree : HasTree right_script
-right_has_tree = subst HasTree right_text (record {
-  texts = right.texts;
-  distinct = right_distinct;
-  lexemes = lexemes 0 false right_pieces;
-  has = have_tokens right.texts right_pieces right_stands;
-  tokens = tokens 0 false right_pieces;
-  seen = seen right.texts right_pieces 0 false right_stands;
-  tree = right_tree;
-  script = record { parts = right_trees; stand = right_statements (tokens 0 false right_pieces) (from_start (tokens 0 false right_pieces)); whole = refl };
-  low = omega arith;
-  right = right_right;
-})
+right_has_tree = subst HasTree right_text (
+  right.texts,
+  right_tree,
+  record {
+    parses = record {
+      tokens = tokens 0 false right_pieces;
+      are = record {
+        lexemes = lexemes 0 false right_pieces;
+        has = have_tokens right.texts right_pieces right_stands;
+        seen = seen right.texts right_pieces 0 false right_stands;
+        distinct = right_distinct;
+      };
+      script = record { parts = right_trees; stand = right_statements (tokens 0 false right_pieces) (from_start (tokens 0 false right_pieces)); whole = refl };
+    };
+    low = omega arith;
+    right = right_right;
+  },
+)
 
 pub loads_have_trees : LoadsHaveTrees
 loads_have_trees start size most = (left_has_tree start size most, right_has_tree)

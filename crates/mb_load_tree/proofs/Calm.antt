@@ -77,7 +77,7 @@ module _ (out xs : List Shape) where
   misses_less u None m = m
   misses_less usage.Assigns (Some operand) m = λ t. m (target_more t)
   misses_less usage.Deletes (Some operand) m = λ p. m (property_more p)
-  misses_less usage.Reads (Some operand) m = m
+  misses_less usage.Plain (Some operand) m = m
 
   calm_more : (id : NodeId) (s : Shape) → CalmAt out id s → CalmAt (out ++ xs) id s
   calm_more id s calm = record {
@@ -99,9 +99,9 @@ pub record IsQuiet (kind : Kind) : Type 0 where
   pub declares : declares_of kind ≡ Nothing
   pub catches : (parts : List NodeId) → handler_of kind parts ≡ None
   pub jumps : jump_of kind ≡ jump.Nothing
-  pub uses : use_of kind ≡ usage.Reads
+  pub uses : use_of kind ≡ usage.Plain
 
-reads_nothing : (shapes : List Shape) (o : Option NodeId) → MissesAt shapes usage.Reads o → ⊥
+reads_nothing : (shapes : List Shape) (o : Option NodeId) → MissesAt shapes usage.Plain o → ⊥
 reads_nothing shapes None m = m
 reads_nothing shapes (Some operand) m = m
 

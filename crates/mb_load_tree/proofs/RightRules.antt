@@ -50,11 +50,11 @@ two_repeats a b at differ repeats = by repeats.first repeats.second repeats.in_o
     by (suc i) (suc zero) order is also = omega (arith, order)
     by i (suc (suc j)) order is also = cc
 
-reads_nothing : (o : Option NodeId) → MissesAt nodes usage.Reads o → ⊥
+reads_nothing : (o : Option NodeId) → MissesAt nodes usage.Plain o → ⊥
 reads_nothing None m = m
 reads_nothing (Some operand) m = m
 
-fine : (s : Shape) → together nodes s ≡ [] → jump_of s.label.kind ≡ jump.Nothing → use_of s.label.kind ≡ usage.Reads → IsFine s
+fine : (s : Shape) → together nodes s ≡ [] → jump_of s.label.kind ≡ jump.Nothing → use_of s.label.kind ≡ usage.Plain → IsFine s
 fine s empty jumps uses = record {
   once = λ at repeats. none_repeats at (subst (λ bs. Repeats bs at) empty repeats);
   stays = jumps;

@@ -1,11 +1,11 @@
 -- How `run` ends by two scripts of the first form.
 use Rattle.std.proofs.Common.{◌≡◌, ◌<◌, ◌≤◌, ℕ, List, Option, Some, None, length, refl, sym, ap, ap₂, subst, ◌∙◌, inl, inr, arith}
-use Rattle.std.specs.Prelude.{Vec, ◌⊎◌, IsSome}
-use Rattle.std.specs.declared.alloc.Global.{Global}
+use Rattle.std.specs.Prelude.{◌⊎◌, IsSome}
 use Rattle.std.proofs.lemmas.Option.{none-some}
 use Rattle.mb_base.specs.declared.value.Side.{Side}
 use Rattle.mb_cli.specs.Sides.{left_side, right_side}
-use Rattle.mb_cli.specs.Trees.{HasTree, ScriptFault}
+use Rattle.mb_load_tree.specs.Trees.{HasTree}
+use Rattle.mb_cli.specs.Trees.{ScriptFault}
 use Rattle.mb_cli.specs.first_form.Form.{Literal, HasLiterals, longest}
 use Rattle.mb_cli.specs.first_form.Prints.{Prints, IsPrinted, IsNotRun, faulty, other_form, too_long, EndsRun, Printed}
 use Rattle.mb_cli.specs.first_form.Text.{text_of}
@@ -15,6 +15,7 @@ use Rattle.mb_cli.specs.Serving.{IsOnly, IsAnswer}
 use Rattle.mb_cli.specs.Tasks.{running}
 use Rattle.mb_cli.specs.machine.Refusals.{status_of}
 use Rattle.mb_cli.specs.machine.TreeFaults.{refusal_of}
+use Rattle.mb_cli.specs.declared.first_form.whole.Script.{Script}
 use Rattle.mb_cli.specs.declared.first_form.script.FormFault.{FormFault}
 use Rattle.mb_cli.specs.declared.first_form.script.FormFault.TheVariants as form
 use Rattle.mb_cli.specs.declared.refusal.Refusal.{Refusal}
@@ -84,18 +85,18 @@ printed_ends left right text w = ((w.lefts, w.left_prints), (w.rights, w.right_p
 -- refusals
 
 -- the text of a script, whose bytes are refused
-pub not_run_text : (held : Option (List ℕ)) (bytes : Vec ℕ Global) (kind : ScriptKind) (read : List ℕ) → IsWhole longest held (Some bytes) → read ≡ bytes.items
-    → IsNotRun (Some read) kind → IsNotRun held kind
-not_run_text held bytes kind read whole is refused = subst (λ h. IsNotRun h kind) (ap Some is ∙ sym whole.0) refused
+pub not_run_text : (held : Option (List ℕ)) (script : Script) (kind : ScriptKind) → IsWhole longest held (Some script)
+    → IsNotRun (Some script.bytes.items) kind → IsNotRun held kind
+not_run_text held script kind whole refused = subst (λ h. IsNotRun h kind) (sym whole.0) refused
 
 -- or which is too long
 pub not_run_long : (held : Option (List ℕ)) → IsWhole longest held None → IsNotRun held Shape
 not_run_long None whole = absurd whole
 not_run_long (Some bytes) long = too_long long
 
-pub there : (script : Option (List ℕ)) (text : Option (Vec ℕ Global)) (most : ℕ) → IsWhole most script text → IsSome script
+pub there : (script : Option (List ℕ)) (read : Option Script) (most : ℕ) → IsWhole most script read → IsSome script
 there None None most whole = absurd whole
-there None (Some bytes) most whole = absurd (none-some bytes.items whole.0)
+there None (Some read) most whole = absurd (none-some read.bytes.items whole.0)
 there (Some text) read most whole = refl
 
 -- a refusal of the reader of the first form
@@ -104,12 +105,12 @@ pub by_form : (bytes : List ℕ) (fault : FormFault) (k : ScriptKind) → length
 by_form bytes form.Shape k within tree none e = let same : Shape ≡ k = cc in subst (IsNotRun (Some bytes)) same (other_form within tree (none refl))
 by_form bytes form.NoMemory k within tree none e = cc
 
-pub not_run_fault : (s : Side) (held : Option (List ℕ)) (bytes : Vec ℕ Global) (read : List ℕ) (fault : TreeFault) (answer : Refusal)
-    → IsWhole longest held (Some bytes) → read ≡ bytes.items
-    → ((kind : ScriptKind) → fault ≡ Bad kind → IsNotRun (Some read) kind) → answer ≡ refusal_of s fault
+pub not_run_fault : (s : Side) (held : Option (List ℕ)) (script : Script) (fault : TreeFault) (answer : Refusal)
+    → IsWhole longest held (Some script)
+    → ((kind : ScriptKind) → fault ≡ Bad kind → IsNotRun (Some script.bytes.items) kind) → answer ≡ refusal_of s fault
     → (answer ≡ refusal.NoMemory) ⊎ ((kind : ScriptKind) × (answer ≡ refusal.Script s kind) × IsNotRun held kind)
-not_run_fault s held bytes read (Bad kind) answer whole is refused e = inr (kind, e, not_run_text held bytes kind read whole is (refused kind refl))
-not_run_fault s held bytes read tree.NoMemory answer whole is refused e = inl e
+not_run_fault s held script (Bad kind) answer whole refused e = inr (kind, e, not_run_text held script kind whole (refused kind refl))
+not_run_fault s held script tree.NoMemory answer whole refused e = inl e
 
 -- the answer where the left script is refused, and where only the right one is
 

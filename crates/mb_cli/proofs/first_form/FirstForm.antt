@@ -3,7 +3,7 @@ use Rattle.std.proofs.Common.{ℕ, List, map, refl, sym, subst}
 use Rattle.mb_tree.specs.declared.kind.Kind.TheVariants as k
 use Rattle.mb_tree.specs.Roses.{node, bare}
 use Rattle.mb_cli.specs.first_form.Form.{Literal, HasLiterals}
-use Rattle.mb_cli.specs.Trees.{HasTree}
+use Rattle.mb_load_tree.specs.Trees.{HasTree}
 use Rattle.mb_cli.proofs.TokensSeen.{table}
 use Rattle.mb_cli.proofs.first_form.FirstTokens.{lexeme_of, Follow, first_tokens, statements_follow}
 use Rattle.mb_cli.proofs.first_form.FirstTree.{script_height, script_right, at_start, made}

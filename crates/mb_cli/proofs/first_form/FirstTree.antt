@@ -67,7 +67,7 @@ record IsQuiet (kind : Kind) : Type 0 where
   declares : declares_of kind ≡ Nothing
   catches : (parts : List NodeId) → handler_of kind parts ≡ None
   jumps : jump_of kind ≡ jump.Nothing
-  uses : use_of kind ≡ usage.Reads
+  uses : use_of kind ≡ usage.Plain
 
 abbrev AreQuiet : List Shape → Type 0
 AreQuiet [] = ⊤
@@ -122,7 +122,7 @@ module _ (shapes : List Shape) (quiet : AreQuiet shapes) where
   quiet_right (BadTarget id) broken =
       by (operand_of broken.node.label.kind broken.node.children) (subst (λ u. MissesAt shapes u (operand_of broken.node.label.kind broken.node.children)) (quiet_at shapes id.0 broken.node quiet broken.is).uses broken.misses)
     where
-      by : (o : Option NodeId) → MissesAt shapes usage.Reads o → ⊥
+      by : (o : Option NodeId) → MissesAt shapes usage.Plain o → ⊥
       by None m = m
       by (Some operand) m = m
   quiet_right NoMemory broken = broken

@@ -1,7 +1,8 @@
 -- Which scripts `run` accepts, which it refuses, and what they print.
 use Rattle.std.specs.Prelude.{◌≡◌, ℕ, ◌<◌, ◌≤◌, ◌⊎◌, List, length, Option, Some, None, IsSome}
 use Rattle.mb_cli.specs.Sides.{left_side, right_side}
-use Rattle.mb_cli.specs.Trees.{HasTree, ScriptFault}
+use Rattle.mb_load_tree.specs.Trees.{HasTree}
+use Rattle.mb_cli.specs.Trees.{ScriptFault}
 use Rattle.mb_cli.specs.first_form.Form.{Literal, HasLiterals, longest}
 use Rattle.mb_cli.specs.first_form.Text.{text_of}
 use Rattle.mb_cli.specs.declared.status.ScriptKind.{ScriptKind}

@@ -1,6 +1,6 @@
 // The laws of scripts of the first form.
 ghost use Rattle.std.specs.Prelude.{◌≡◌, ℕ, List};
-ghost use Rattle.mb_cli.specs.Trees.{HasTree};
+ghost use Rattle.mb_load_tree.specs.Trees.{HasTree};
 ghost use Rattle.mb_cli.specs.first_form.Form.{Literal, HasLiterals};
 ghost use Rattle.mb_cli.specs.first_form.Lexemes.{FirstLexeme, HasFirstTokens};
 

@@ -23,7 +23,8 @@ fn letter(side: Side) -> u8
 
 // The text of a literal.
 fn text_of(literal: Literal, texts: &mut Texts) -> Result<StrId, NoMemory>
-    ensures text { (meant : Meant) → IsLiteral texts.old literal meant → IfOk result (λ id. slice_get texts.new id.0 ≡ Some (units_of meant)) }
+    ensures text { (meant : Meant) → IsLiteral texts.old literal meant
+        → IfOk result (λ id. slice_get texts.new id.0 ≡ Some (units_of meant)) }
     ensures ids { KeepsIds texts.old texts.new }
 {
     match literal {
@@ -40,7 +41,8 @@ fn line_of(
     texts: &mut Texts,
 ) -> Result<Vec<u8>, NoMemory>
     requires { (meant : Meant) × IsLiteral texts.old literal meant }
-    ensures line { (meant : Meant) → IsLiteral texts.old literal meant → IfOk result (λ line. line.items ≡ meant_line side meant) }
+    ensures line { (meant : Meant) → IsLiteral texts.old literal meant
+        → IfOk result (λ line. line.items ≡ meant_line side meant) }
     ensures ids { KeepsIds texts.old texts.new }
 {
     let text = text_of(literal, texts)?;
@@ -59,7 +61,8 @@ fn add_lines(
     lines: &mut Vec<Vec<u8>>,
 ) -> Result<(), NoMemory>
     requires { (meant : List Meant) × AreLiterals texts.old literals.now meant }
-    ensures lines { (meant : List Meant) → AreLiterals texts.old literals.now meant → OnOk result (contents_of lines.new.items ≡ contents_of lines.old.items ++ map (meant_line side) meant) }
+    ensures lines { (meant : List Meant) → AreLiterals texts.old literals.now meant
+        → OnOk result (contents_of lines.new.items ≡ contents_of lines.old.items ++ map (meant_line side) meant) }
     ensures ids { KeepsIds texts.old texts.new }
 {
     for literal in literals {
@@ -87,7 +90,8 @@ pub fn lines_of(
 ) -> Result<Vec<Vec<u8>>, NoMemory>
     requires left { (meant : List Meant) × AreLiterals texts.old left.now meant }
     requires right { (meant : List Meant) × AreLiterals texts.old right.now meant }
-    ensures { (lefts rights : List Meant) → AreLiterals texts.old left.now lefts → AreLiterals texts.old right.now rights
+    ensures { (lefts rights : List Meant) → AreLiterals texts.old left.now lefts
+        → AreLiterals texts.old right.now rights
         → IfOk result (λ lines. contents_of lines.items ≡ meant_lines lefts rights) }
 {
     let mut lines = Vec::new(alloc);

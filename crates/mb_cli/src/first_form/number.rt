@@ -49,7 +49,8 @@ fn whole_of(digits: &[u8]) -> Option<i64>
 
 // The whole number at the front of the bytes, and the number of its digits.
 pub fn number_at(bytes: &[u8]) -> Option<(i64, usize)>
-    ensures found { IfSome result (λ p. (n : ℕ) × (p.0 ≡ pos n) × (p.1 ≤ length bytes.now) × IsAtFront (whole n) bytes.now (drop p.1 bytes.now)) }
+    ensures found { IfSome result (λ p. (n : ℕ) × (p.0 ≡ pos n) × (p.1 ≤ length bytes.now)
+        × IsAtFront (whole n) bytes.now (drop p.1 bytes.now)) }
     ensures none { IsNone result → (n : ℕ) (rest : List ℕ) → IsAtFront (whole n) bytes.now rest → ⊥ }
 {
     let count = digits_len(bytes);

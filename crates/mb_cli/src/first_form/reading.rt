@@ -67,7 +67,8 @@ fn text_at(alloc: Global, bytes: &[u8], texts: &mut Texts) -> Result<(Token, usi
     requires size { length bytes.now ≤ 1048576 }
     requires some { 0 < length bytes.now }
     requires quote { slice_index bytes.now 0 ≡ 34 }
-    ensures stands { IfOk result (λ r. (units : List ℕ) × Means texts.new r.0 (text units) × (r.1 ≤ length bytes.now) × IsAtFront (text units) bytes.now (drop r.1 bytes.now)) }
+    ensures stands { IfOk result (λ r. (units : List ℕ) × Means texts.new r.0 (text units)
+        × (r.1 ≤ length bytes.now) × IsAtFront (text units) bytes.now (drop r.1 bytes.now)) }
     ensures other { result ≡ Err LexFault.Other → (units rest : List ℕ) → IsAtFront (text units) bytes.now rest → ⊥ }
     ensures ids { KeepsIds texts.old texts.new }
 {
@@ -88,8 +89,10 @@ fn text_at(alloc: Global, bytes: &[u8], texts: &mut Texts) -> Result<(Token, usi
 fn token_at(alloc: Global, bytes: &[u8], texts: &mut Texts) -> Result<(Token, usize), LexFault>
     requires size { length bytes.now ≤ 1048576 }
     requires some { 0 < length bytes.now }
-    ensures stands { IfOk result (λ r. (token : Meaning) × Means texts.new r.0 token × (r.1 ≤ length bytes.now) × IsAtFront token bytes.now (drop r.1 bytes.now)) }
-    ensures other { result ≡ Err LexFault.Other → (token : Meaning) (rest : List ℕ) → IsAtFront token bytes.now rest → ⊥ }
+    ensures stands { IfOk result (λ r. (token : Meaning) × Means texts.new r.0 token
+        × (r.1 ≤ length bytes.now) × IsAtFront token bytes.now (drop r.1 bytes.now)) }
+    ensures other { result ≡ Err LexFault.Other
+        → (token : Meaning) (rest : List ℕ) → IsAtFront token bytes.now rest → ⊥ }
     ensures ids { KeepsIds texts.old texts.new }
 {
     match bytes[0] {
@@ -109,7 +112,8 @@ fn token_at(alloc: Global, bytes: &[u8], texts: &mut Texts) -> Result<(Token, us
 /// may hold more texts after a refusal. The time is linear in the bytes.
 pub fn lex(alloc: Global, bytes: &[u8], texts: &mut Texts) -> Result<Vec<Spanned>, LexFault>
     requires size { length bytes.now ≤ 1048576 }
-    ensures tokens { IfOk result (λ tokens. (lexemes : List FirstLexeme) × HasFirstTokens bytes.now lexemes × AreRead texts.new tokens.items lexemes) }
+    ensures tokens { IfOk result (λ tokens. (lexemes : List FirstLexeme)
+        × HasFirstTokens bytes.now lexemes × AreRead texts.new tokens.items lexemes) }
     ensures other { result ≡ Err LexFault.Other → (lexemes : List FirstLexeme) → HasFirstTokens bytes.now lexemes → ⊥ }
     ensures ids { KeepsIds texts.old texts.new }
 {

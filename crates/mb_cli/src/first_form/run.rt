@@ -1,5 +1,5 @@
 // The command `run`: two scripts of the first form.
-ghost use Rattle.std.specs.Prelude.{◌≡◌, ◌≢◌, ◌≤◌, ◌⊎◌, ℕ, List, Option, Err, Some, IsTrue, IfOk, IfErr, IfSome, length, vec_len};
+ghost use Rattle.std.specs.Prelude.{◌≡◌, ◌≢◌, ◌≤◌, ◌⊎◌, ℕ, List, Option, Err, Some, IsTrue, IfOk, IfErr, IfSome, vec_len};
 ghost use Rattle.std.specs.List.{concat};
 ghost use Rattle.mb_outer.specs.Shelf.{Shelf, held};
 ghost use Rattle.mb_text.specs.Texts.{KeepsIds};
@@ -10,16 +10,16 @@ ghost use Rattle.mb_cli.specs.Tasks.{IsThere, Writes, left_of, running};
 ghost use Rattle.mb_cli.specs.first_form.Form.{Literal as Meant};
 ghost use Rattle.mb_cli.specs.first_form.Prints.{Prints, IsNotRun, Printed};
 ghost use Rattle.mb_cli.specs.first_form.machine.Literals.{AreLiterals};
-ghost use Rattle.mb_cli.specs.first_form.machine.Whole.{IsWhole};
+ghost use Rattle.mb_cli.specs.first_form.machine.Whole.{IsWhole, IsLexed};
 ghost use Rattle.mb_cli.specs.machine.Lines.{contents_of};
 ghost use Rattle.mb_cli.specs.machine.Refusals.{ending};
 
 use super::lines::lines_of;
 use super::script::{Literal, read_script};
-use super::whole::read_whole;
+use super::whole::{Script, read_whole};
 use crate::refusal::{Refusal, refuse};
 use crate::status::ScriptKind;
-use crate::tree::{TreeFault, judge};
+use crate::tree::{TreeFault, judge_lexed};
 use mb_base::Side;
 use mb_outer::Library;
 use mb_text::Texts;
@@ -29,41 +29,48 @@ use std::alloc::Global;
 const LONGEST: usize = 65_536;
 
 // The literals of a script that has a tree and is of the first form.
-fn literals_of(alloc: Global, bytes: &[u8], texts: &mut Texts) -> Result<Vec<Literal>, TreeFault>
-    requires { length bytes.now ≤ 65_536 }
+fn literals_of(alloc: Global, script: Script, texts: &mut Texts) -> Result<Vec<Literal>, TreeFault>
+    requires within { vec_len script.bytes ≤ 65_536 }
+    requires lexed { IsLexed script }
     ensures literals { IfOk result (λ literals. (meant : List Meant)
-        × Prints (Some bytes.now) meant × AreLiterals texts.new literals.items meant) }
-    ensures refused { (kind : Kind) → result ≡ Err (TreeFault.Bad kind) → IsNotRun (Some bytes.now) kind }
+        × Prints (Some script.bytes.items) meant × AreLiterals texts.new literals.items meant) }
+    ensures refused { (kind : Kind) → result ≡ Err (TreeFault.Bad kind) → IsNotRun (Some script.bytes.items) kind }
     ensures ids { KeepsIds texts.old texts.new }
 {
-    judge(alloc, bytes)?;
-    Ok(read_script(alloc, bytes, texts)?)
+    let Script {
+        bytes,
+        lexer,
+        texts: mut lexed,
+    } = script;
+    judge_lexed(alloc, lexer, &mut lexed)?;
+    Ok(read_script(alloc, &bytes, texts)?)
 }
 
-// The literals of the script of that side, whose text was read, or was too long.
+// The literals of the script of that side, which was read, or was too long.
 fn accepted(
     alloc: Global,
     side: Side,
-    text: Option<Vec<u8>>,
+    script: Option<Script>,
     texts: &mut Texts,
 ) -> Result<Vec<Literal>, Refusal>
-    requires { IfSome text (λ bytes. vec_len bytes ≤ 65_536) }
+    requires within { IfSome script (λ s. vec_len s.bytes ≤ 65_536) }
+    requires lexed { IfSome script IsLexed }
     ensures meant { IfOk result (λ literals. (meant : List Meant) × AreLiterals texts.new literals.items meant) }
-    ensures script { (held : Option (List ℕ)) → IsWhole 65_536 held text
+    ensures script { (held : Option (List ℕ)) → IsWhole 65_536 held script
         → IfOk result (λ literals. (meant : List Meant)
         × Prints held meant × AreLiterals texts.new literals.items meant) }
-    ensures refused { (held : Option (List ℕ)) → IsWhole 65_536 held text
+    ensures refused { (held : Option (List ℕ)) → IsWhole 65_536 held script
         → IfErr result (λ refusal. (refusal ≡ Refusal.NoMemory)
         ⊎ ((kind : Kind) × (refusal ≡ Refusal.Script side kind) × IsNotRun held kind)) }
     ensures judged { result ≢ Err Refusal.ReadFault }
     ensures ids { KeepsIds texts.old texts.new }
 {
-    match text {
+    match script {
         None => Err(Refusal::Script {
             side,
             kind: ScriptKind::Shape,
         }),
-        Some(bytes) => match literals_of(alloc, &bytes, texts) {
+        Some(script) => match literals_of(alloc, script, texts) {
             Ok(literals) => Ok(literals),
             Err(fault) => Err(refuse(side, fault)),
         },
@@ -73,11 +80,13 @@ fn accepted(
 // The lines that the two scripts print.
 fn lines_printed(
     alloc: Global,
-    left: Option<Vec<u8>>,
-    right: Option<Vec<u8>>,
+    left: Option<Script>,
+    right: Option<Script>,
 ) -> Result<Vec<Vec<u8>>, Refusal>
-    requires left { IfSome left (λ bytes. vec_len bytes ≤ 65_536) }
-    requires right { IfSome right (λ bytes. vec_len bytes ≤ 65_536) }
+    requires left { IfSome left (λ s. vec_len s.bytes ≤ 65_536) }
+    requires right { IfSome right (λ s. vec_len s.bytes ≤ 65_536) }
+    requires left_lexed { IfSome left IsLexed }
+    requires right_lexed { IfSome right IsLexed }
     ensures lines { (lefts rights : Option (List ℕ)) → IsWhole 65_536 lefts left → IsWhole 65_536 rights right
         → IfOk result (λ lines. Printed lefts rights (concat (contents_of lines.items))) }
     ensures answer { (lefts rights : Option (List ℕ)) → IsWhole 65_536 lefts left → IsWhole 65_536 rights right

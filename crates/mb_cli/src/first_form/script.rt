@@ -54,7 +54,8 @@ impl From<FormFault> for TreeFault {
 // The statement at the front of the tokens, by its literal, and the tokens behind it.
 fn first_statement(tokens: &[Spanned]) -> Option<(Literal, &[Spanned])>
     ensures found { IfSome result (λ r. tokens_of tokens.now ≡ statement_of r.0 ++ tokens_of r.1.now) }
-    ensures none { IsNone result → (literal : Literal) (more : List Token) → tokens_of tokens.now ≡ statement_of literal ++ more → ⊥ }
+    ensures none { IsNone result → (literal : Literal) (more : List Token)
+        → tokens_of tokens.now ≡ statement_of literal ++ more → ⊥ }
 {
     match tokens {
         [print, open, inside, close, end, rest @ ..]
@@ -74,8 +75,10 @@ fn first_statement(tokens: &[Spanned]) -> Option<(Literal, &[Spanned])>
 
 // The literals of the statements that the tokens are.
 fn statements(alloc: Global, tokens: &[Spanned]) -> Result<Option<Vec<Literal>>, AllocError>
-    ensures found { IfOk result (λ found. IfSome found (λ literals. tokens_of tokens.now ≡ statements_of literals.items)) }
-    ensures none { IfOk result (λ found. IsNone found → (literals : List Literal) → tokens_of tokens.now ≡ statements_of literals → ⊥) }
+    ensures found { IfOk result (λ found. IfSome found
+        (λ literals. tokens_of tokens.now ≡ statements_of literals.items)) }
+    ensures none { IfOk result (λ found. IsNone found → (literals : List Literal)
+        → tokens_of tokens.now ≡ statements_of literals → ⊥) }
 {
     let mut literals = Vec::new(alloc);
     let mut rest = tokens;
@@ -98,7 +101,8 @@ pub fn read_script(
     texts: &mut Texts,
 ) -> Result<Vec<Literal>, FormFault>
     requires { length bytes.now ≤ 65536 }
-    ensures script { IfOk result (λ literals. (meant : List Meant) × HasLiterals bytes.now meant × AreLiterals texts.new literals.items meant) }
+    ensures script { IfOk result (λ literals. (meant : List Meant)
+        × HasLiterals bytes.now meant × AreLiterals texts.new literals.items meant) }
     ensures shape { result ≡ Err FormFault.Shape → (meant : List Meant) → HasLiterals bytes.now meant → ⊥ }
     ensures ids { KeepsIds texts.old texts.new }
 {

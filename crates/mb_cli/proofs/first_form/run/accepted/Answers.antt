@@ -7,7 +7,7 @@ use Rattle.mb_cli.proofs.first_form.run.accepted.Goals as goal
 pub returns-in-None-clause-refused : goal.returns-in-None-clause-refused
 returns-in-None-clause-refused c held whole = inr ((Shape, refl, not_run_long held (rw c.in-None.is at whole)))
 
-pub returns-clause-refused : goal.returns-clause-refused
-returns-clause-refused c held whole =
-    not_run_fault c.args.side held c.in-Some.bytes c.deref.result.now c.in-Err.fault c.refuse.result (rw c.in-Some.is at whole) c.deref.ensures.value
+pub returns-in-Err-clause-refused : goal.returns-in-Err-clause-refused
+returns-in-Err-clause-refused c held whole =
+    not_run_fault c.args.side held c.in-Some.script c.in-Err.fault c.refuse.result (rw c.in-Some.is at whole)
     (λ kind e. c.in-Err.ensures.refused kind (ap Err e)) c.refuse.ensures
