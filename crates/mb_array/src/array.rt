@@ -48,7 +48,8 @@ fn define_element(
     requires length { LengthIs w.old o length.key length.value length.writable }
     requires index { index < 2 ^ 32 - 1 }
     ensures { Ends w.old o desc
-        (on_object (λ t k x. element_defined t k x index (array_length t)) (names_of w.old) key desc (cell_at w.old o)) result w.new }
+        (on_object (λ t k x. element_defined t k x index (array_length t)) (names_of w.old) key desc (cell_at w.old o))
+        result w.new }
 {
     if length.refuses(index) {
         return Ok(Defined::Answer(false));
@@ -74,7 +75,8 @@ fn define_length(
     requires can { CanDefine w.old o length.key desc }
     requires length { LengthIs w.old o length.key length.value length.writable }
     ensures { Ends w.old o desc
-        (on_object (λ t k x. length_defined t x x.value) (names_of w.old) length.key desc (cell_at w.old o)) result w.new }
+        (on_object (λ t k x. length_defined t x x.value) (names_of w.old) length.key desc (cell_at w.old o))
+        result w.new }
 {
     let Some(value) = desc.value else {
         return plain::define(w, o, length.key, desc);
@@ -96,7 +98,8 @@ fn set_length(
     requires can { CanDefine w.old o length.key desc }
     requires length { LengthIs w.old o length.key length.value length.writable }
     ensures { Ends w.old o desc
-        (on_object (λ t k x. length_below t x n (array_length t)) (names_of w.old) length.key desc (cell_at w.old o)) result w.new }
+        (on_object (λ t k x. length_below t x n (array_length t)) (names_of w.old) length.key desc (cell_at w.old o))
+        result w.new }
 {
     if length.value <= n {
         plain::define(w, o, length.key, desc)

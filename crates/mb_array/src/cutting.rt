@@ -39,7 +39,8 @@ pub(crate) fn indices_from(props: &Props<Full<Value>>, n: u32) -> Result<Vec<Key
 pub(crate) fn cut(w: &mut World, o: ObjId, n: u32, keys: Vec<Key>) -> u32
     requires object { ObjIn w.old o }
     requires indices { All (λ key. index_of key < 2 ^ 32 - 1) keys.items }
-    ensures cell { w.new ≡ change_cell w.old o (with_table (cut_of (reverse keys.items) n (table_in (cell_at w.old o))).left) }
+    ensures cell { w.new
+        ≡ change_cell w.old o (with_table (cut_of (reverse keys.items) n (table_in (cell_at w.old o))).left) }
     ensures length { result ≡ (cut_of (reverse keys.items) n (table_in (cell_at w.old o))).length }
 {
     let mut keys = keys;

@@ -36,7 +36,8 @@ pub fn define_any(w: &mut World, o: ObjId, key: Key, desc: Desc<Value>) -> Resul
     requires key { KeyIn w.old key }
     requires desc { DescIn w.old desc }
     requires kind { IsOfOneKind desc }
-    requires length { (c : Cell) → cell_at w.old o ≡ Some c → is_array c.kind ≡ true → HasItsLength w.old.texts c.props }
+    requires length { (c : Cell) → cell_at w.old o ≡ Some c → is_array c.kind ≡ true
+        → HasItsLength w.old.texts c.props }
     requires apart { TellsApart w.old (compared w.old o key desc) }
     ensures answer { IfOk result (λ answer. answer ≡ told (meant w.old o key desc)) }
     ensures cell { OnOk result (option_map (object_of (names_of w.old)) (cell_at w.new o)
