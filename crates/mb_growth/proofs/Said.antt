@@ -10,7 +10,7 @@ use Rattle.mb_view.specs.Passing.{Passes}
 use Rattle.mb_view.specs.Ordinary.{Gets, Sets, IsOrdinary}
 use Rattle.mb_view.proofs.OrdinaryPasses.{ordinary-passes}
 use Rattle.mb_world.specs.declared.entry.Op.TheVariants.{Has, Get as GetOp, Set as SetOp, Apply, Construct as ConstructOp}
-use Rattle.mb_world.specs.Value.{Val, Undefined, is_undefined, same_value}
+use Rattle.mb_world.specs.Value.{Val, Undefined, is_object, is_undefined, same_value}
 use Rattle.mb_world.specs.Key.{PropertyKey, same_key}
 use Rattle.mb_world.specs.Graph.{Graph, Thing, Said, SaidNothing, SaidFlag, SaidValue, SaidAbsent, SaidProperty, SaidKeys, SaidThrow, SaidPair}
 use Rattle.mb_world.specs.Ordinary.{looked, written}
@@ -166,12 +166,12 @@ set-ends s v g t k x r = by (shown_property g v t k) refl
         (λ q after. set-passes k x (Shown g v t)
         (subst (λ (y : Option (Full Val)). Sets Undefined y) (sym (seen-at g v t k ∙ e)) sets) (said_outcome q)) p
 
-    called : (f h : Val) (i c : Bool) → shown_property g v t k ≡ Some (Accessor f h i c) → (b : Bool) → is_undefined h ≡ b
+    called : (f h : Val) (i c : Bool) → shown_property g v t k ≡ Some (Accessor f h i c) → (b : Bool) → is_object h ≡ b
         → RowEnds (λ q after. EntryPasses (Set k x r) q (Shown g v t))
         (ordinary_set s k x r (written t.prototype (Some (Accessor f h i c))) finished g)
-    called f h i c at true undef = rw undef tt
-    called f h i c at false def =
-        all (Some (Accessor f h i c)) at (λ none. let bad : true ≡ false = sym (ap is_undefined none) ∙ def in cc)
+    called f h i c at false none = rw none tt
+    called f h i c at true there =
+        all (Some (Accessor f h i c)) at (λ none. let bad : false ≡ true = sym (ap is_object none) ∙ there in cc)
         (ordinary_set s k x r (written t.prototype (Some (Accessor f h i c))) finished g)
 
     by : (o : Option (Full Val)) → shown_property g v t k ≡ o
@@ -181,4 +181,4 @@ set-ends s v g t k x r = by (shown_property g v t k) refl
     by (Some (Datum y true i c)) e =
         all (Some (Datum y true i c)) e refl (ordinary_set s k x r (written t.prototype (shown_property g v t k)) finished g)
     by (Some (Datum y false i c)) e = rw e tt
-    by (Some (Accessor f h i c)) e = rw e (called f h i c e (is_undefined h) refl)
+    by (Some (Accessor f h i c)) e = rw e (called f h i c e (is_object h) refl)
