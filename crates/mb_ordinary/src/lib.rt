@@ -7,8 +7,6 @@ mod changing;
 pub mod laws;
 mod prototypes;
 mod reading;
-#[cfg(test)]
-mod tests;
 
 pub use answers::{Look, SetStep, Visit};
 pub use changing::{define, delete, prevent};
