@@ -85,10 +85,15 @@ answered-meant d o c p r there distinct within p_in is apart =
 
 pub set-meant : (d : Data) (o : ObjId) (p : Value) (n : ℕ) (r : Option Bool) → r ≡ answered p (cell_at d o) → (TellsApart d (p ∷ proto_of (cell_at d o)) → IfSome (object_at d o) (λ t. r ≡ prototype_answered t (Resolve (names_of d) p))) → TellsWalk d o p → IfSome (object_at d o) (λ t. proto_set d o p n ≡ proto_set_as d o p n t)
 set-meant d o p n r is meant tells =
-    IfSome_then (object_at d o) (meant tells.values)
-    (λ t e.
-    ap (λ w. or_walked n w (answered p (cell_at d o))) (walked-same (visited d o) (visited_as d o) n p (λ y s. visit-meant d o y (tells.visits y s)))
-    ∙ ap (or_walked n (walked (visited_as d o) n p)) (sym is ∙ e))
+    IfSome_then (object_at d o) (meant tells.values) (λ t e. by (answered p (cell_at d o)) refl (prototype_answered t (Resolve (names_of d) p)) (sym is ∙ e))
+  where
+    by : (w : Option Bool) → answered p (cell_at d o) ≡ w → (u : Option Bool) → answered p (cell_at d o) ≡ u → or_walked n (walked (visited d o) n p) (answered p (cell_at d o)) ≡ or_walked n (walked (visited_as d o) n p) u
+    by (Some b) f u e =
+        ap (or_walked n (walked (visited d o) n p)) f ∙ sym (ap (or_walked n (walked (visited_as d o) n p)) (sym e ∙ f))
+    by None f u e =
+        ap (or_walked n (walked (visited d o) n p)) f
+        ∙ walked-same (visited d o) (visited_as d o) n p (λ y s. visit-meant d o y (tells.visits f y s))
+        ∙ sym (ap (or_walked n (walked (visited_as d o) n p)) (sym e ∙ f))
 
 pub answered-same : (p : Value) (o : Option Cell) (c : Cell) → o ≡ Some c → equal p c.proto ≡ true → Some true ≡ answered p o
 answered-same p o c there e = rw (there, e) refl

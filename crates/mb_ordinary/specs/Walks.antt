@@ -128,7 +128,7 @@ proto_of (Some c) = c.proto ∷ []
 abbrev pub TellsProto : Data → ObjId → Value → Type 0
 TellsProto d o p = TellsApart d (p ∷ proto_of (cell_at d o))
 
--- nor does an object that the walk visits, but o, stand for what o does
+-- nor, where there is a walk, does an object that it visits, but o, stand for what o does
 pub record TellsWalk (d : Data) (o : ObjId) (p : Value) : Type 0 where
   pub values : TellsProto d o p
-  pub visits : (x : ObjId) → Visits (visited d o) p x → TellsReal d o x
+  pub visits : answered p (cell_at d o) ≡ None → (x : ObjId) → Visits (visited d o) p x → TellsReal d o x
