@@ -43,8 +43,8 @@ Keeps (Some (Number at)) l texts bytes =
 Keeps (Some (Utf8 at)) l texts bytes = IsValidUpTo bytes at × (at + 4 ≤ length bytes) × (l.pending ≡ [])
 Keeps (Some NoMemory) l texts bytes = ⊥
 
--- The lexer stands for these bytes. Nobody has to believe what this says: `begin` gives it of no bytes, `feed` leads on to
--- the bytes with the piece behind them, and `finish` asks for it.
+-- The lexer stands for these bytes. Nobody has to believe what this says: `begin` gives it of no bytes, `feed` leads on
+-- to the bytes with the piece behind them, and `finish` asks for it.
 pub record Fed (l : Lexing) (texts : List (List ℕ)) (bytes : List ℕ) : Type 0 where
   pub count : l.fed ≡ length bytes
   pub kept : Keeps l.fault l texts bytes

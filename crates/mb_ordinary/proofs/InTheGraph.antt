@@ -1,6 +1,5 @@
 -- The object that a cell is, and the graph.
 use Rattle.std.proofs.Common.{◌≡◌, ℕ, Option, Some, None, true, false, refl, sym, ap, ◌∙◌, true≢false, slice_get, option_map}
-use Rattle.std.specs.Prelude.{IfSome}
 use Rattle.std.proofs.lemmas.Option.{slice_get-map}
 use Rattle.mb_base.specs.declared.value.ObjId.{ObjId}
 use Rattle.mb_base.specs.declared.value.Side.{Side}
@@ -40,7 +39,11 @@ pub of-built-in : OfBuiltIn
 of-built-in d o c log side place there kind first has =
     let t : Thing = thing_in (names_of d) c in
     let at : slice_get (stands d.cells) o.0 ≡ Some (AtPlace place) = slice_get-map stand d.cells o.0 ∙ ap (option_map stand) there ∙ ap (λ k. Some (kind_stand k)) kind in
-    let same : Some (as_standard t) ≡ standard_at place = rw there at (rw first at has) in
+    let found : Some has.id ≡ Some o = sym has.found ∙ first in
+    let id : has.id ≡ o = cc in
+    let both : Some has.cell ≡ Some c = sym has.there ∙ ap (cell_at d) id ∙ there in
+    let cell : has.cell ≡ c = cc in
+    let same : Some (as_standard t) ≡ standard_at place = ap (λ x. Some (as_standard (thing_in (names_of d) x))) (sym cell) ∙ has.standard in
     ap (option_map (object_of (names_of d))) there
     ∙ ap (λ k. let u : Thing = record t { owner = owner_by k c.home } in Some u) kind
     ∙ same

@@ -1,5 +1,5 @@
 -- Nodes that stand first.
-use Rattle.std.proofs.Common.{◌≡◌, List, [], ◌∷◌, ◌++◌, refl, sym, ap, ◌∙◌, append-nil, append_assoc}
+use Rattle.std.proofs.Common.{◌≡◌, List, [], ◌∷◌, ◌++◌, sym, ap, ◌∙◌, append-nil, append_assoc}
 use Rattle.mb_tree.specs.Roses.{Shape, Extends}
 
 pub extends_same : {old new : List Shape} → new ≡ old → Extends old new

@@ -1,6 +1,6 @@
 -- A form tells the kind of its node and all its children.
-use Rattle.std.proofs.Common.{◌≡◌, ℕ, ◌≤◌, Bool, true, false, List, [], ◌∷◌, ◌++◌, length, take, drop, Option, Some, None, refl, sym, ap, subst, ◌∙◌, cond}
-use Rattle.std.specs.Prelude.{nat_le, if◌then◌else◌, is_some, option_to_list}
+use Rattle.std.proofs.Common.{◌≡◌, ℕ, Bool, true, false, List, [], ◌∷◌, ◌++◌, length, take, drop, Option, Some, None, refl, sym, ap, ◌∙◌}
+use Rattle.std.specs.Prelude.{nat_le, if◌then◌else◌, option_to_list}
 use Rattle.std.specs.Option.{option_map}
 use Rattle.std.proofs.lemmas.List.{take-append-drop, length-take-le}
 use Rattle.std.proofs.lemmas.Bool.{leb-true}
@@ -11,7 +11,7 @@ use Rattle.mb_tree.specs.declared.kind.Kind.TheVariants as k
 use Rattle.mb_tree.specs.declared.kind.PropKey.{PropKey}
 use Rattle.mb_tree.specs.declared.kind.PropKey.TheVariants as pk
 use Rattle.mb_tree.specs.Roses.{Label}
-use Rattle.mb_tree.specs.Form.{PropName, Written, Whole, Computed, FunctionParts, Form, DeclForm, FunctionDeclForm, MemberForm, MethodForm, GetterForm, SetterForm, ValueForm, ForForm, leaf_of, named_leaf, one_of, two_of, at_most_one_of, first_and_rest, function_parts, key_and_rest, if_form, cond_form, for_form, try_form, decl_form, member_form, function_decl_form, value_form, method_form, property_form, operand_form, expression_form, statement_form, form_by, key_kind, kind_of, key_parts, parts_of}
+use Rattle.mb_tree.specs.Form.{PropName, Written, Whole, Computed, FunctionParts, Form, DeclForm, FunctionDeclForm, MemberForm, MethodForm, GetterForm, SetterForm, ValueForm, leaf_of, named_leaf, one_of, two_of, at_most_one_of, first_and_rest, function_parts, key_and_rest, if_form, cond_form, for_form, try_form, decl_form, member_form, function_decl_form, value_form, method_form, property_form, operand_form, expression_form, statement_form, form_by, key_kind, kind_of, key_parts, parts_of}
 
 -- each form that this is has the kind and the parts
 abbrev pub IsOf : Kind → List NodeId → Option Form → Type 0

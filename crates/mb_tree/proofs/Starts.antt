@@ -1,7 +1,7 @@
 -- The index from a node to its names.
-use Rattle.std.proofs.Common.{◌≡◌, ℕ, suc, ◌+◌, ◌-◌, ◌<◌, ◌≤◌, Bool, true, false, cond, nat_eq, nat_lt, List, [], ◌∷◌, ◌++◌, length, take, drop, get_or, slice_index, replicate, arith, refl, sym, ap, ◌∙◌, rules, length-append, zero-add, Some}
+use Rattle.std.proofs.Common.{◌≡◌, ℕ, suc, ◌+◌, ◌-◌, ◌<◌, ◌≤◌, Bool, true, false, cond, nat_eq, nat_lt, List, [], ◌∷◌, ◌++◌, length, take, get_or, slice_index, replicate, arith, refl, sym, ap, ◌∙◌, length-append, zero-add, Some}
 use Rattle.std.specs.Prelude.{All, slice_get}
-use Rattle.std.specs.List.{count_by, filter, slice_range, sum_by}
+use Rattle.std.specs.List.{filter, slice_range}
 use Rattle.std.specs.List.Sorted.{IsNonDecreasingBy}
 use Rattle.std.proofs.lemmas.Bool.Decides.{nat_tests}
 use Rattle.std.proofs.lemmas.List.{take_more, take_all, length-take-le, length-replicate, get_or-replicate, get_or_append_left, get_or-append_right}
@@ -9,7 +9,7 @@ use Rattle.std.proofs.lemmas.List.Elements.{All-head, All-tail, All-push}
 use Rattle.std.proofs.lemmas.List.Sorted.{IsNonDecreasingBy-drop}
 use Rattle.std.proofs.lemmas.List.Sums.{sum_by-append, sum_by-le-sum_by, count_by-le-length}
 use Rattle.std.proofs.lemmas.Option.{get_or_from_slice_get}
-use Rattle.mb_tree.specs.Names.{Binds, node_of, names_at}
+use Rattle.mb_tree.specs.Names.{Binds, node_of}
 use Rattle.mb_tree.specs.machine.Starts.{before, AreStarts}
 
 -- ---- how many names stand before a node

@@ -81,12 +81,12 @@ fn starts_of(alloc: Global, names: &[(NodeId, StrId, bool)]) -> Result<Vec<usize
 }
 
 // Makes that place the start of each node up to this one that has none yet.
-fn start_at(starts: &mut Vec<usize>, node: NodeId, place: usize) -> Result<(), NoMemory>
-    ensures { OnOk result (starts.new.items ≡ starts.old.items ++ replicate (node.0 + 1 - length starts.old.items) place) }
+fn start_at(starts: &mut Vec<usize>, node: NodeId, at: usize) -> Result<(), NoMemory>
+    ensures { OnOk result (starts.new.items ≡ starts.old.items ++ replicate (node.0 + 1 - length starts.old.items) at) }
 {
     let up_to = node.0 as usize + 1;
     if starts.len() < up_to {
-        starts.resize(up_to, place)?;
+        starts.resize(up_to, at)?;
     }
     Ok(())
 }

@@ -179,10 +179,13 @@ pub record FormedEntry (IsEntry : graph.Entry → Type 0) (d : Data) (place : �
 abbrev pub as_standard : Thing → Thing
 as_standard t = record t { owner = None }
 
-abbrev pub HasBuiltIn : Data → Side → ℕ → Type 0
-HasBuiltIn d side place =
-    IfSome (built_in_of d.joined d.cells side place) (λ id.
-    IfSome (cell_at d id) (λ c. Some (as_standard (thing_in (names_of d) c)) ≡ standard_at place))
+-- a side has the built-in of that place
+pub record HasBuiltIn (d : Data) (side : Side) (place : ℕ) : Type 0 where
+  pub id : ObjId
+  pub cell : Cell
+  pub found : built_in_of d.joined d.cells side place ≡ Some id
+  pub there : cell_at d id ≡ Some cell
+  pub standard : Some (as_standard (thing_in (names_of d) cell)) ≡ standard_at place
 
 abbrev pub is_of_membrane : CellKind → Bool
 is_of_membrane (Membrane behind shadow) = true

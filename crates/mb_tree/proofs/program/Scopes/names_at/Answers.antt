@@ -1,7 +1,7 @@
-use Rattle.std.proofs.Common.{◌≡◌, ◌≤◌, ℕ, ◌+◌, ◌-◌, take, drop, length, sym, ap, ◌∙◌, subst, arith}
+use Rattle.std.proofs.Common.{◌≡◌, ◌≤◌, ◌+◌, ◌-◌, take, drop, length, sym, ap, ◌∙◌, subst, arith}
 use Rattle.std.specs.List.{slice_range}
 use Rattle.std.specs.List.Sorted.{IsNonDecreasingBy}
-use Rattle.mb_tree.specs.Names.{Binds, node_of}
+use Rattle.mb_tree.specs.Names.{node_of}
 use Rattle.mb_tree.specs.machine.Starts.{before}
 use Rattle.mb_tree.proofs.Starts.{before-up, before-fits, stretch}
 use Rattle.mb_tree.proofs.program.Scopes.names_at.Goals as goal

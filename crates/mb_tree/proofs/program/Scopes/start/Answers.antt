@@ -1,6 +1,6 @@
-use Rattle.std.proofs.Common.{◌≡◌, ◌≤◌, ◌<◌, ℕ, length, get_or, sym, ap, ◌∙◌, arith}
+use Rattle.std.proofs.Common.{◌≡◌, ◌≤◌, ◌<◌, length, get_or, sym, ap, ◌∙◌, arith}
 use Rattle.std.specs.Prelude.{All}
-use Rattle.mb_tree.specs.Names.{Binds, node_of}
+use Rattle.mb_tree.specs.Names.{node_of}
 use Rattle.mb_tree.specs.machine.Starts.{before}
 use Rattle.mb_tree.proofs.Starts.{before-all}
 use Rattle.mb_tree.proofs.program.Scopes.start.Goals as goal
