@@ -1,5 +1,5 @@
 -- Each node of a tree of the grammar has its form.
-use Rattle.std.proofs.Common.{◌≡◌, ℕ, ◌+◌, ◌<◌, ◌≤◌, Bool, true, false, List, [], ◌∷◌, ◌++◌, length, get_or, Option, Some, None, refl, sym, ap, subst, ◌∙◌, arith}
+use Rattle.std.proofs.Common.{◌≡◌, ℕ, ◌+◌, Bool, true, false, List, [], ◌∷◌, length, Option, Some, None, refl, sym, subst, arith}
 use Rattle.std.specs.Prelude.{slice_get, IsSome, nat_le, if◌then◌else◌}
 use Rattle.std.specs.List.{All}
 use Rattle.std.specs.Option.{option_map}
@@ -7,17 +7,15 @@ use Rattle.std.proofs.lemmas.List.Elements.{All-append, All-get_or, All-nil, All
 use Rattle.std.proofs.lemmas.Option.{slice_get_within, get_or_from_slice_get}
 use Rattle.std.proofs.lemmas.Bool.{le-leb}
 use Rattle.mb_base.specs.declared.value.StrId.{StrId}
-use Rattle.mb_tree.specs.declared.kind.PropKey.{PropKey}
 use Rattle.mb_tree.specs.declared.kind.Kind.{Kind}
-use Rattle.mb_tree.specs.Roses.{Label, Rose, Roses, node, none, more, Shape, shape, write, write_all, roots, size, join}
+use Rattle.mb_tree.specs.Roses.{Rose, Roses, node, none, more, Shape, shape, write, write_all, roots, size, join}
 use Rattle.mb_tree.specs.Form.{PropName, FunctionParts, Form, form_of, function_parts, function_decl_form, for_form, try_form, value_form, method_form, key_and_rest}
 use Rattle.mb_tree.proofs.Written.{roots_length}
 use Rattle.mb_grammar.specs.declared.function.Property.{Property}
 use Rattle.mb_grammar.specs.declared.function.Maker.{Maker}
-use Rattle.mb_grammar.specs.declared.function.Maker.TheVariants as mk
 use Rattle.mb_grammar.specs.Tokens.{Tokens, Place}
 use Rattle.mb_grammar.specs.Nonterminals.{Nonterminal}
-use Rattle.mb_grammar.specs.Labels.{one_part, two_parts, three_parts, param, made_label}
+use Rattle.mb_grammar.specs.Labels.{one_part, param, made_label}
 use Rattle.mb_grammar.specs.Parts.{Names, last_name, name_and, Params, no_params, params, params_comma, MakerParams, of_function, of_method, of_getter, of_setter, Head, one, many}
 use Rattle.mb_grammar.specs.Grammar.{Bodies, Stands, lift, left_new, left_call, new_member, seq, assign, compound, arrow_value, arrow_block, cond, or, and_also, binary, unary, negative, before, behind, new_new, new_args, member, index, call, this, name_of, number, text, literal, array, object, function, group, Listed, last_of, then_of, Elements, nothing, elements, elements_comma, KeyOf, key_word, key_text, key_number, key_computed, Before, unnamed, with_name, method, getter, setter, Made, made, PropertyOf, valued, shorthand, maker_of, PropertyList, last_property, then_property, Properties, no_property, properties, properties_comma, Declarations, last_declared, then_declared, Declared, declared, declared_as, Lets, lets, BlockOf, block, Perhaps, absent, present, ForFirst, first_lets, first_expression, Caught, no_catch, catch_all, catch_named, Finally, no_finally, finally, Sub, sub_block, empty, expression, if_then, if_else, while_do, do_while, for_loop, returns, returns_with, throw, break, continue, try, Statement, sub, let_statement, const, declaration, Statements, finished, statement}
 use Rattle.mb_grammar.specs.Script.{IsTreeOfGrammar}

@@ -7,7 +7,7 @@
 -- The relations of expressions speak of function bodies in braces too, by the places where their statements begin, the
 -- last one first: in `Stands ts nonterminal tree ds es i j` ds are those before place i, es those before place j. What
 -- stands within such a body isn't among them. So an expression that begins with no bodies, [], lists its own in es.
-use Rattle.std.specs.Prelude.{◌≡◌, ℕ, ℤ, suc, ◌+◌, ◌<◌, ◌≤◌, Bool, true, false, List, [], ◌∷◌, Some, None}
+use Rattle.std.specs.Prelude.{◌≡◌, ℤ, suc, ◌+◌, ◌<◌, ◌≤◌, Bool, true, false, List, [], ◌∷◌, Some, None}
 use Rattle.mb_base.specs.declared.value.StrId.{StrId}
 use Rattle.mb_token.specs.declared.token.Token.TheVariants as t
 use Rattle.mb_token.specs.declared.word.Word.TheVariants as w

@@ -13,7 +13,7 @@ use Rattle.mb_grammar.specs.declared.function.Maker.{Maker}
 use Rattle.mb_grammar.specs.Tokens.{RoleAt}
 use Rattle.mb_grammar.specs.Labels.{param}
 use Rattle.mb_grammar.specs.Parts.{Names, last_name, name_and, Params, no_params, params, params_comma}
-use Rattle.mb_grammar.specs.Grammar.{Stands, lift, left_new, left_call, new_member, call, Listed, last_of, then_of, Elements, nothing, elements_comma, PropertyList, last_property, then_property, Properties, no_property, properties_comma}
+use Rattle.mb_grammar.specs.Grammar.{Stands, lift, left_new, left_call, new_member, Listed, last_of, then_of, Elements, nothing, elements_comma, PropertyList, last_property, then_property, Properties, no_property, properties_comma}
 use Rattle.mb_parse_expr.proofs.Steps.{level_bound}
 use Rattle.mb_parse_expr.specs.machine.Covers.{Commas, no_comma, comma_more, PropertyCommas, no_property_yet, property_more, NameCommas, no_name, name_more}
 

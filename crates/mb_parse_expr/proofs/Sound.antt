@@ -1,5 +1,5 @@
 -- What the parser ends with stands in the tokens.
-use Rattle.std.proofs.Common.{◌≡◌, ◌-◌, ℕ, suc, ◌+◌, ◌≤◌, Bool, true, false, List, [], ◌∷◌, Option, Some, None, refl, sym, ap, subst, ◌∙◌, arith}
+use Rattle.std.proofs.Common.{◌≡◌, ℕ, suc, ◌+◌, ◌≤◌, Bool, true, false, List, [], ◌∷◌, Option, Some, None, refl, sym, ap, subst, ◌∙◌, arith}
 use Rattle.std.specs.Prelude.{nat_lt, if◌then◌else◌}
 use Rattle.std.proofs.lemmas.Bool.{ltb-false}
 use Rattle.mb_base.specs.declared.value.StrId.{StrId}
@@ -33,8 +33,8 @@ use Rattle.mb_grammar.specs.Tokens.{role_of, token_at, role_at, after_line_at, R
 use Rattle.mb_parse_expr.specs.machine.Machine.{made_extra, made_mode, hole, strength, least_before, taken_move, end_move, close_move, params_move, param_move, comma_move, head_move, block_move, title_move, open_move, brace_move, property_move, key_move, keyed_move, item_move, word_move, name_move, ahead_at, follow_at, Going, apply, move_at}
 use Rattle.mb_grammar.specs.Nonterminals.{level_of}
 use Rattle.mb_grammar.specs.Labels.{named_property, value_label, made_label, param}
-use Rattle.mb_grammar.specs.Parts.{WordText, name, soft, reserved, GetAt, SetAt, Names, Params, MakerParams, of_function, of_method, of_getter, of_setter, Head, one, many}
-use Rattle.mb_grammar.specs.Grammar.{Stands, assign, compound, arrow_block, cond, or, and_also, binary, unary, negative, before, behind, member, text, object, function, KeyOf, key_word, key_text, key_number, Before, unnamed, with_name, method, getter, setter, Made, made, PropertyOf, shorthand, maker_of, last_property, properties, Statements}
+use Rattle.mb_grammar.specs.Parts.{WordText, name, soft, reserved, GetAt, SetAt, MakerParams, of_function, of_method, of_getter, of_setter, Head, many}
+use Rattle.mb_grammar.specs.Grammar.{Stands, assign, compound, arrow_block, cond, or, and_also, binary, unary, negative, before, member, object, function, KeyOf, key_word, key_text, key_number, Before, unnamed, with_name, method, getter, setter, Made, made, PropertyOf, shorthand, maker_of, last_property, properties, Statements}
 use Rattle.mb_tree.specs.machine.Stack.{top}
 use Rattle.mb_parse_expr.proofs.Steps.{sign_range, before_size, made_gathers}
 use Rattle.mb_parse_expr.specs.machine.Covers.{IsListing, PropertyCommas, property_more, NameCommas, no_name, name_more, Opening, opening, arrow_opening, Spine, bottom, in_infix, in_or, in_and, in_becomes, in_compound, in_test, in_choice, in_unary, in_negative, in_before, in_new, in_group, in_index, in_args, in_new_args, in_array, in_seq, in_arrow, in_value, in_computed, in_computed_get, in_computed_set, Objects, in_object, Under, under_arrow, under_function, under_method, under_getter, under_setter, Titled, title_read, Headed, headed, InParams, in_params, InComma, in_comma, InHead, in_head, arrowed, Ready, ready_arrow, ready_made, braced, Blocked, blocked, Dotted, dotted, Accessing, getting, setting, KeyRead, key_read, ItemRead, item_read, Behind, behind_operand, behind_short, Good}

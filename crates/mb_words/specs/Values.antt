@@ -9,7 +9,7 @@ use Rattle.mb_words.specs.Words.{Word}
 abbrev pub is_digit : ℕ → Bool
 is_digit b = nat_le 48 b && nat_le b 57
 
--- `0`, or decimal digits without a leading zero
+-- `0`, or digits of which the first isn't `0`
 abbrev pub is_number : Word → Bool
 is_number word = nat_lt 0 (length word)
     && (list_all is_digit word && (not (nat_eq (slice_index word 0) 48) || nat_eq (length word) 1))

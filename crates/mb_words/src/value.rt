@@ -22,7 +22,7 @@ fn has_digits_alone(word: &[u8]) -> bool
     word.iter().all(|byte| is_digit(*byte))
 }
 
-// Whether the word is `0`, or decimal digits without a leading zero.
+// Whether the word is `0`, or digits of which the first isn't `0`.
 fn is_number(word: &[u8]) -> bool
     ensures { result ≡ numeral word.now }
 {

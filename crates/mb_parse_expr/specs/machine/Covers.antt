@@ -8,11 +8,9 @@ use Rattle.mb_tree.specs.declared.kind.Sign.{Sign}
 use Rattle.mb_tree.specs.declared.kind.Sign.TheVariants as s
 use Rattle.mb_tree.specs.Roses.{Rose, Roses, node, none, named, size}
 use Rattle.mb_tree.specs.machine.Operands.{pushed}
-use Rattle.mb_grammar.specs.declared.role.Role.{Role}
 use Rattle.mb_grammar.specs.declared.role.Role.TheVariants as r
 use Rattle.mb_parse_expr.specs.declared.role.Follow.TheVariants as fo
 use Rattle.mb_grammar.specs.declared.level.Level.{Level}
-use Rattle.mb_grammar.specs.declared.level.Level.TheVariants as lv
 use Rattle.mb_grammar.specs.declared.function.Property.{Property}
 use Rattle.mb_grammar.specs.declared.function.Maker.{Maker}
 use Rattle.mb_grammar.specs.declared.function.Maker.TheVariants as mk

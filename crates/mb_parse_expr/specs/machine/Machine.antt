@@ -1,5 +1,5 @@
 -- The parser's steps, on trees in place of flat nodes.
-use Rattle.std.specs.Prelude.{ℕ, ℤ, ◌+◌, Bool, true, false, nat_lt, nat_eq, if◌then◌else◌, List, [], ◌∷◌, ◌++◌, Option, Some, None, drop, not}
+use Rattle.std.specs.Prelude.{ℕ, ◌+◌, Bool, true, false, nat_lt, nat_eq, if◌then◌else◌, List, [], ◌∷◌, Option, Some, None, drop, not}
 use Rattle.mb_base.specs.declared.value.StrId.{StrId}
 use Rattle.mb_token.specs.declared.token.Token.{Token}
 use Rattle.mb_token.specs.declared.token.Token.TheVariants as t
@@ -7,10 +7,8 @@ use Rattle.mb_token.specs.declared.token.Spanned.{Spanned}
 use Rattle.mb_token.specs.declared.mark.Mark.TheVariants as m
 use Rattle.mb_token.specs.declared.word.Soft.{Soft}
 use Rattle.mb_token.specs.declared.word.Soft.TheVariants.{Get, Set}
-use Rattle.mb_tree.specs.declared.kind.Kind.{Kind}
 use Rattle.mb_tree.specs.declared.kind.Kind.TheVariants as k
 use Rattle.mb_tree.specs.declared.kind.PropKey.TheVariants as pk
-use Rattle.mb_tree.specs.declared.kind.Sign.{Sign}
 use Rattle.mb_tree.specs.declared.kind.Sign.TheVariants as s
 use Rattle.mb_tree.specs.Roses.{Rose, Roses, node, none, size, bare, named, numbered}
 use Rattle.mb_tree.specs.machine.Stack.{top, below}

@@ -2,14 +2,11 @@
 use Rattle.std.specs.Prelude.{◌≡◌, ℕ, List, [], ◌∷◌}
 use Rattle.mb_base.specs.declared.value.NodeId.{NodeId}
 use Rattle.mb_token.specs.declared.token.Spanned.{Spanned}
-use Rattle.mb_tree.specs.Roses.{Rose, Roses, Shape, id_of, write, root}
+use Rattle.mb_tree.specs.Roses.{Rose, Shape}
 use Rattle.mb_tree.specs.machine.Operands.{written, places}
-use Rattle.mb_grammar.specs.declared.role.Role.TheVariants as r
 use Rattle.mb_grammar.specs.declared.level.Level.{Level}
 use Rattle.mb_parse_expr.specs.declared.machine.Frame.{Frame}
 use Rattle.mb_parse_expr.specs.declared.machine.Mode.{Mode}
-use Rattle.mb_grammar.specs.Tokens.{role_at, RoleAt}
-use Rattle.mb_grammar.specs.Grammar.{Stands, Statements}
 use Rattle.mb_parse_expr.specs.machine.Machine.{State, Going, Waits, Ends, Leads}
 use Rattle.mb_tree.specs.machine.Stack.{laid}
 use Rattle.mb_grammar.specs.Script.{Whole}

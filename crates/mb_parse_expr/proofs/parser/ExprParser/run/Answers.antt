@@ -5,7 +5,7 @@ use Rattle.mb_parse_expr.specs.declared.machine.Move.TheVariants.{Leaf, Enter, B
 use Rattle.mb_tree.specs.Roses.{view}
 use Rattle.mb_parse_expr.proofs.Place.{Chosen, reading_leaf, reading_begin, reading_enter, reading_swap, reading_turn, waiting_pause, waiting_needs, reading_suffix, reading_build, reading_popped, reading_fit, reading_ended, reading_wrong}
 use Rattle.mb_tree.proofs.Stack.{shorter}
-use Rattle.mb_tree.proofs.Growing.{extends_same, extends_on}
+use Rattle.mb_tree.proofs.Growing.{extends_on}
 use Rattle.mb_parse_expr.proofs.Counts.{chosen_within, reading_count}
 use Rattle.mb_parse_expr.proofs.parser.ExprParser.run.Goals as goal
 
