@@ -15,7 +15,7 @@ use Rattle.mb_parse_stmt.specs.declared.machine.Stop.{Stop}
 use Rattle.mb_parse_stmt.specs.declared.machine.Stop.TheVariants as st
 use Rattle.mb_parse_stmt.specs.machine.Terminals.{terminal_at}
 use Rattle.mb_parse_stmt.specs.machine.Machine.{one, is_close, stops_of}
-use Rattle.mb_parse_stmt.specs.machine.Covers.{Counted, no_statement, one_more, Commas, no_comma, comma_more, NameCommas, no_name, name_more, CatchHead, nameless, head_named, Lists, IsStop}
+use Rattle.mb_parse_stmt.specs.machine.Covers.{Counted, no_statement, one_more, Commas, no_comma, comma_more, NameCommas, no_name, name_more, CatchHead, nameless, head_named, IsStop}
 use Rattle.mb_parse_stmt.proofs.Tokens.{means}
 
 -- lists on the stack of operands

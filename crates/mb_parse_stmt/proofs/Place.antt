@@ -1,12 +1,11 @@
 -- Where the code's parser is.
-use Rattle.std.proofs.Common.{◌≡◌, ℕ, zero, suc, ◌+◌, ◌-◌, ◌≤◌, List, [], ◌∷◌, ◌++◌, length, take, Option, refl, sym, ap, subst, ◌∙◌, arith, append-nil, length-append, length-take}
-use Rattle.std.proofs.Math.Seq.{take-append_seam}
+use Rattle.std.proofs.Common.{◌≡◌, ℕ, zero, suc, ◌+◌, ◌-◌, ◌≤◌, List, [], ◌∷◌, ◌++◌, length, take, Option, refl, sym, ap, subst, ◌∙◌, arith, append-nil, length-append}
 use Rattle.mb_base.specs.declared.value.NodeId.{NodeId}
 use Rattle.mb_token.specs.declared.token.Spanned.{Spanned}
 use Rattle.mb_tree.specs.Roses.{Rose, Roses, node, none, Shape, shape, id_of, root, write, roots, size}
 use Rattle.mb_tree.specs.machine.Operands.{pushed, written, places, Gathered, Short, Got, gather}
 use Rattle.mb_tree.proofs.Stack.{popped}
-use Rattle.mb_tree.proofs.Written.{operands_fit, root_write, root_least, roots_length, places_length, gather_written, gather_places, gather_size, gathers, pushed_written, pushed_places}
+use Rattle.mb_tree.proofs.Written.{operands_fit, roots_length, places_length, gather_written, gather_places, gather_size, gathers, pushed_written, pushed_places}
 use Rattle.mb_grammar.specs.declared.level.Level.{Level}
 use Rattle.mb_grammar.specs.Script.{Whole}
 use Rattle.mb_parse_expr.specs.Pauses.{IsTree}

@@ -15,7 +15,7 @@ use Rattle.mb_grammar.specs.Tokens.{after_line_at, RoleAt, SameLine, WordAt}
 use Rattle.mb_grammar.specs.Script.{Whole}
 use Rattle.mb_grammar.specs.Labels.{param}
 use Rattle.mb_grammar.specs.Parts.{Params}
-use Rattle.mb_grammar.specs.Grammar.{Stands, last_declared, Declared, declared, declared_as, lets, BlockOf, block, Perhaps, absent, present, first_lets, first_expression, no_catch, no_finally, finally, Sub, sub_block, empty, expression, if_then, if_else, while_do, do_while, for_loop, returns, returns_with, throw, break, continue, try, Statement, sub, let_statement, const, declaration, Statements, finished, statement}
+use Rattle.mb_grammar.specs.Grammar.{Stands, last_declared, Declared, declared, declared_as, lets, BlockOf, block, Perhaps, absent, present, first_lets, first_expression, no_catch, no_finally, finally, Sub, sub_block, empty, expression, if_then, if_else, while_do, do_while, for_loop, returns, returns_with, throw, break, continue, try, Statement, sub, let_statement, const, declaration, Statements, finished}
 use Rattle.mb_parse_stmt.specs.declared.terminal.Terminal.{Terminal}
 use Rattle.mb_parse_stmt.specs.declared.terminal.Terminal.TheVariants as p
 use Rattle.mb_parse_stmt.specs.declared.machine.Stop.{Stop}

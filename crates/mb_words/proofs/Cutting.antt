@@ -4,7 +4,7 @@ use Rattle.std.specs.Prelude.{option_and_then}
 use Rattle.std.proofs.lemmas.List.{append-nil}
 use Rattle.mb_words.specs.declared.command.OptionName.{OptionName}
 use Rattle.mb_words.specs.Words.{Word, Role, marker, flag, opener, given, operand, wrong, role_of, operand_role, is_value}
-use Rattle.mb_words.specs.Parts.{Given, Parts, Chosen, cut, cut_from, cut_at, cut_behind, with_option, with_operand, chosen, choice_of, each_once}
+use Rattle.mb_words.specs.Parts.{Parts, Chosen, cut, cut_from, cut_at, cut_behind, with_option, with_operand, chosen, choice_of, each_once}
 use Rattle.mb_words.specs.machine.Scanning.{Slots, State, empty, start, put, held, at_role, behind_role, after, done, whole}
 use Rattle.mb_words.proofs.Putting.{put_all, puts_all, merged}
 

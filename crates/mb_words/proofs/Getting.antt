@@ -1,5 +1,5 @@
 -- What the getters of `clap` give, and what they are for.
-use Rattle.std.proofs.Common.{◌≡◌, ◌∙◌, sym, ap, refl, ℕ, Bool, true, false, List, [], ◌∷◌, Option, Some, None, if◌then◌else◌, codes}
+use Rattle.std.proofs.Common.{◌≡◌, ◌∙◌, sym, ap, refl, Bool, true, false, List, [], ◌∷◌, Option, Some, None, if◌then◌else◌, codes}
 use Rattle.std.specs.Prelude.{option_map}
 use Rattle.std.proofs.Common.{ap₂, subst}
 use Rattle.clap.specs.declared.parser.matches.ArgMatches.{ArgMatches}

@@ -1,8 +1,8 @@
 -- What `clap` makes of a command's words in their one order.
-use Rattle.std.proofs.Common.{◌≡◌, ◌∙◌, sym, ap, refl, ℕ, Bool, true, false, ◌&&◌, nat_le, List, [], ◌∷◌, length, Option, Some, None, codes}
-use Rattle.clap.specs.Words.{App, Rule, Row, Text, matches_of, takes}
+use Rattle.std.proofs.Common.{◌≡◌, refl, ℕ, Bool, true, false, ◌&&◌, nat_le, List, [], ◌∷◌, length, Option, Some, None}
+use Rattle.clap.specs.Words.{matches_of, takes}
 use Rattle.std.specs.List.{list_all}
-use Rattle.std.proofs.Common.{◌≤◌, ◌+◌, arith}
+use Rattle.std.proofs.Common.{◌≤◌, arith}
 use Rattle.std.proofs.lemmas.Bool.{leb-true}
 use Rattle.clap.proofs.WalkLemmas.{both}
 use Rattle.clap.specs.ValueTests.{accepts}
@@ -13,7 +13,7 @@ use Rattle.mb_words.specs.declared.command.Command.TheVariants.{Run, Shared, Che
 use Rattle.mb_words.specs.Words.{Word}
 use Rattle.mb_words.specs.Parts.{Chosen}
 use Rattle.mb_words.specs.machine.Matching.{app_for, in_order, takes_operands, Finds}
-use Rattle.mb_words.proofs.Operands.{at, over, all_pass, ends_well}
+use Rattle.mb_words.proofs.Operands.{over, all_pass}
 
 abbrev choice : Option Word → Option Word → Option Word → Bool → List Word → Chosen
 choice p s b t operands = record { operands = operands; policy = p; schedule = s; budget = b; traced = t }

@@ -1,14 +1,13 @@
 -- Neighbouring words change places.
-use Rattle.std.proofs.Common.{◌≡◌, ◌∙◌, sym, ap, refl, subst, Bool, true, false, ◌&&◌, List, [], ◌∷◌, ◌++◌, Option, Some, None}
+use Rattle.std.proofs.Common.{◌≡◌, ◌∙◌, sym, ap, refl, subst, true, false, List, [], ◌∷◌, ◌++◌, Option, Some, None}
 use Rattle.std.specs.List.{list_all}
-use Rattle.std.specs.List.Sorted.{IsPermutation}
 use Rattle.std.proofs.lemmas.List.Sorted.{IsPermutation-refl, IsPermutation-cons, IsPermutation-append_left, IsPermutation-to_front}
 use Rattle.clap.proofs.WalkLemmas.{both}
 use Rattle.mb_words.specs.declared.command.Command.{Command}
 use Rattle.mb_words.specs.declared.command.OptionName.{OptionName}
 use Rattle.mb_words.specs.Words.{Word, Role, marker, flag, opener, given, operand, wrong, options_of, role_of}
 use Rattle.mb_words.specs.Parts.{Given, Parts, cut, cut_from, cut_at, with_option, with_operand, chosen}
-use Rattle.mb_words.specs.Settings.{SettingsOf, by_command, by_choice}
+use Rattle.mb_words.specs.Settings.{by_command, by_choice}
 use Rattle.mb_words.specs.Orders.{SameButForOrder, is_whole, is_whole_option, NeighboursMayChange}
 use Rattle.mb_words.proofs.Ordered.{chosen_alike}
 

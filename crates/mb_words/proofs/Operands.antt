@@ -1,10 +1,10 @@
 -- What `clap` makes of the operands, however many there are.
-use Rattle.std.proofs.Common.{◌≡◌, ◌∙◌, sym, ap, ap₂, refl, subst, ℕ, Bool, true, false, ◌&&◌, List, [], ◌∷◌, ◌++◌, Option, Some, None, is_some, codes, append_assoc}
+use Rattle.std.proofs.Common.{◌≡◌, ◌∙◌, sym, ap, ap₂, refl, Bool, true, false, ◌&&◌, List, [], ◌∷◌, ◌++◌, Some, None, is_some, codes, append_assoc}
 use Rattle.std.specs.List.{fold, list_all}
 use Rattle.std.proofs.lemmas.List.{append-nil}
-use Rattle.clap.specs.Words.{App, Rule, Row, Text, built, matches_of, takes}
+use Rattle.clap.specs.Words.{App, Rule, Row, Text, built}
 use Rattle.clap.specs.Walk.{Walk, positional, walked, finished}
-use Rattle.clap.specs.Simple.{Shape, entered}
+use Rattle.clap.specs.Simple.{entered}
 use Rattle.clap.specs.Takes.{walk_passes, turn_passes, settle_passes, default_passes, is_valid, entered_passes}
 use Rattle.clap.specs.ValueTests.{accepts}
 use Rattle.clap.specs.declared.builder.value_parser.ValueParser.TheVariants as vp

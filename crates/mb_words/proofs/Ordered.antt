@@ -1,5 +1,5 @@
 -- What options give doesn't depend on their order.
-use Rattle.std.proofs.Common.{◌≡◌, ◌∙◌, sym, ap, ap₂, refl, subst, ℕ, ◌+◌, ◌<◌, ◌≤◌, Bool, true, false, ◌&&◌, nat_le, List, [], ◌∷◌, ◌++◌, Option, Some, None, is_some, if◌then◌else◌, cond, inl, inr, arith, get_or}
+use Rattle.std.proofs.Common.{◌≡◌, ◌∙◌, sym, ap, refl, subst, ℕ, ◌+◌, ◌<◌, ◌≤◌, Bool, true, false, ◌&&◌, nat_le, List, [], ◌∷◌, Option, Some, None, is_some, if◌then◌else◌, cond, inl, inr, arith, get_or}
 use Rattle.std.specs.Prelude.{option_map}
 use Rattle.std.specs.List.{Contains, count_by, find}
 use Rattle.std.specs.List.Sorted.{IsPermutation}
@@ -11,9 +11,8 @@ use Rattle.clap.proofs.WalkLemmas.{both}
 use Rattle.mb_words.specs.declared.command.Command.{Command}
 use Rattle.mb_words.specs.declared.command.OptionName.{OptionName}
 use Rattle.mb_words.specs.declared.command.OptionName.TheVariants.{Policy, Schedule, Budget, Trace}
-use Rattle.mb_words.specs.Words.{Word, command_of, options_of}
-use Rattle.mb_words.specs.Parts.{Given, Parts, Chosen, cut, chosen, choice_of, each_once, is_of, times, value_of}
-use Rattle.mb_words.specs.Settings.{SettingsOf, by_command, by_choice}
+use Rattle.mb_words.specs.Parts.{Given, Parts, chosen, choice_of, each_once, is_of, times, value_of}
+use Rattle.mb_words.specs.Settings.{by_command, by_choice}
 use Rattle.mb_words.specs.Orders.{SameButForOrder, OrderDoesNotMatter}
 
 module _ (p : Given → Bool) where

@@ -1,5 +1,5 @@
 -- What `strip_prefix` leaves, as a function.
-use Rattle.std.proofs.Common.{◌≡◌, refl, ℕ, List, Option, Some, None, MatchOption, option_map, if◌then◌else◌, length, drop, true, false, nat_eq, ap, sym, ◌∙◌, Bor}
+use Rattle.std.proofs.Common.{◌≡◌, refl, ℕ, List, Option, Some, None, MatchOption, option_map, if◌then◌else◌, length, drop, true, false, nat_eq, ap, ◌∙◌, Bor}
 use Rattle.std.specs.List.{starts_with}
 use Rattle.std.specs.Str.Pattern.{FindsTextPrefix, StripsPrefix}
 use Rattle.std.specs.Str.{IsCharBoundary}

@@ -1,8 +1,8 @@
 -- Lists of words and what the definition gives for them.
-use Rattle.std.proofs.Common.{◌≡◌, refl, [], ◌∷◌, ◌++◌, List, ℕ, Some, None, Ok, Err, true, false, codes, replicate}
+use Rattle.std.proofs.Common.{◌≡◌, refl, [], ◌∷◌, List, Some, None, Ok, Err, true, false, codes}
 use Rattle.mb_words.specs.declared.fault.WordsKind.TheVariants.{Usage, Schedule, Budget}
 use Rattle.mb_words.specs.Words.{Word}
-use Rattle.mb_words.specs.Settings.{Reading, SettingsOf, to_run, to_share, to_check, to_load, to_run_sides}
+use Rattle.mb_words.specs.Settings.{Reading, SettingsOf, to_run, to_load, to_run_sides}
 
 abbrev run_with : List Word → Reading
 run_with words = SettingsOf (codes "run" ∷ codes "l" ∷ codes "r" ∷ words)

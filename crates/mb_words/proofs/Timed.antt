@@ -1,9 +1,9 @@
 -- What is asked for with operands, a schedule and a budget.
-use Rattle.std.proofs.Common.{◌≡◌, ◌∙◌, sym, ap, ap₂, refl, subst, ℕ, ◌≤◌, Bool, true, ◌&&◌, nat_le, List, [], ◌∷◌, length, Option, Some, None, Ok, Err, if◌then◌else◌, string_bytes}
+use Rattle.std.proofs.Common.{◌≡◌, ◌∙◌, sym, ap, ap₂, subst, ℕ, ◌≤◌, Bool, true, ◌&&◌, nat_le, List, [], ◌∷◌, length, Option, Some, None, Ok, Err, if◌then◌else◌, string_bytes}
 use Rattle.std.proofs.lemmas.Bool.{le-leb}
 use Rattle.mb_words.specs.declared.asked.Timing as code
 use Rattle.mb_words.specs.declared.command.Command.{Command}
-use Rattle.mb_words.specs.declared.command.Command.TheVariants.{Run, Shared, Check, Load, Sides}
+use Rattle.mb_words.specs.declared.command.Command.TheVariants.{Run, Shared, Sides}
 use Rattle.mb_words.specs.declared.fault.WordsKind.TheVariants.{Usage, Schedule, Budget}
 use Rattle.mb_words.specs.declared.fault.WordsFault.{WordsFault}
 use Rattle.mb_words.specs.declared.fault.WordsFault.TheVariants.{Refused, NoMemory}

@@ -1,12 +1,11 @@
 -- Turns of the loop over words.
-use Rattle.std.proofs.Common.{◌≡◌, ◌∙◌, sym, ap, refl, ℕ, ◌+◌, ◌<◌, ◌≤◌, true, false, List, [], ◌∷◌, Option, Some, None, is_some, Result, Err, map, length, drop, get_or, add-one, string_bytes, Global}
+use Rattle.std.proofs.Common.{◌≡◌, ◌∙◌, sym, ap, refl, ℕ, ◌+◌, ◌<◌, ◌≤◌, true, false, List, [], ◌∷◌, Option, Some, None, is_some, Err, map, length, drop, get_or, add-one, string_bytes, Global}
 use Rattle.std.specs.Prelude.{String}
 use Rattle.std.proofs.Math.Seq.{drop-cons}
 use Rattle.std.proofs.lemmas.List.{drop_all}
 use Rattle.mb_words.specs.declared.command.OptionName.{OptionName}
 use Rattle.mb_words.specs.declared.fault.WordsFault.{WordsFault}
 use Rattle.mb_words.specs.declared.fault.WordsFault.TheVariants.{Refused, NoMemory}
-use Rattle.mb_words.specs.declared.scan.Chosen as code
 use Rattle.mb_words.specs.Words.{Word}
 use Rattle.mb_words.specs.Parts.{cut, chosen}
 use Rattle.mb_words.specs.machine.Scanning.{Slots, State, start, next, after, done, done_at, whole, Steps, Chooses}

@@ -9,7 +9,7 @@ use Rattle.mb_words.specs.declared.fault.WordsFault.TheVariants.{Refused, NoMemo
 use Rattle.mb_words.specs.declared.values.Settings as code
 use Rattle.mb_words.specs.declared.values.Settings.TheVariants as settings
 use Rattle.mb_words.specs.Words.{Word, command_of, options_of}
-use Rattle.mb_words.specs.Parts.{Parts, Chosen, cut, chosen}
+use Rattle.mb_words.specs.Parts.{Chosen, cut, chosen}
 use Rattle.mb_words.specs.Values.{number_of, schedule_fault, schedule_of, budget_of}
 
 -- what a command is to do

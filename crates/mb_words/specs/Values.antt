@@ -1,9 +1,9 @@
 -- Numbers, schedules and budgets as words.
-use Rattle.std.specs.Prelude.{slice_index, ℕ, ◌+◌, List, [], ◌∷◌, length, take, Bool, true, false, not, ◌&&◌, ◌||◌, nat_eq, nat_lt, nat_le, Option, Some, None, if◌then◌else◌, unwrap_or}
+use Rattle.std.specs.Prelude.{slice_index, ℕ, ◌+◌, [], length, take, Bool, false, not, ◌&&◌, ◌||◌, nat_eq, nat_lt, nat_le, Option, Some, None, if◌then◌else◌}
 use Rattle.std.specs.List.{list_all, position}
 use Rattle.std.specs.Str.Parse.{digits_value}
 use Rattle.mb_words.specs.declared.command.Command.{Command}
-use Rattle.mb_words.specs.declared.command.Command.TheVariants.{Run, Shared, Check, Load, Sides}
+use Rattle.mb_words.specs.declared.command.Command.TheVariants.{Run, Shared, Sides}
 use Rattle.mb_words.specs.Words.{Word}
 
 abbrev pub is_digit : ℕ → Bool

@@ -1,5 +1,5 @@
 -- What a parser of scripts has read, with bodies within expressions within bodies.
-use Rattle.std.specs.Prelude.{◌≡◌, ℕ, ◌≤◌, ◌++◌, List, [], ◌∷◌}
+use Rattle.std.specs.Prelude.{◌≡◌, ℕ, ◌≤◌, List, [], ◌∷◌}
 use Rattle.mb_token.specs.declared.token.Spanned.{Spanned}
 use Rattle.mb_tree.specs.machine.Stack.{laid}
 use Rattle.mb_tree.specs.Roses.{Rose, Roses, Shape}

@@ -1,11 +1,10 @@
 -- The steps of a parser of statements, on trees in place of flat nodes.
-use Rattle.std.specs.Prelude.{ℕ, zero, suc, ◌+◌, Bool, true, false, if◌then◌else◌, List, [], ◌∷◌, ◌++◌, Option, Some, None}
+use Rattle.std.specs.Prelude.{ℕ, zero, suc, ◌+◌, Bool, true, false, if◌then◌else◌, List, [], ◌∷◌, Option, Some}
 use Rattle.mb_base.specs.declared.value.StrId.{StrId}
 use Rattle.mb_token.specs.declared.token.Spanned.{Spanned}
-use Rattle.mb_tree.specs.declared.kind.Kind.{Kind}
 use Rattle.mb_tree.specs.declared.kind.Kind.TheVariants as k
 use Rattle.mb_tree.specs.Roses.{Rose, node, none, bare, named}
-use Rattle.mb_tree.specs.machine.Stack.{top, below}
+use Rattle.mb_tree.specs.machine.Stack.{top}
 use Rattle.mb_tree.specs.machine.Operands.{Gathered, Short, Got, gather}
 use Rattle.mb_grammar.specs.declared.level.Level.{Level}
 use Rattle.mb_grammar.specs.declared.level.Level.TheVariants as lv

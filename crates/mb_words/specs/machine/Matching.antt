@@ -1,8 +1,7 @@
 -- The commands as `clap` has them, and their words in one order.
-use Rattle.std.specs.Prelude.{◌≡◌, ℕ, List, [], ◌∷◌, ◌++◌, length, Bool, true, false, ◌&&◌, nat_le, fold, map, Option, Some, None, if◌then◌else◌, codes}
+use Rattle.std.specs.Prelude.{◌≡◌, ℕ, List, [], ◌∷◌, ◌++◌, length, Bool, true, false, ◌&&◌, nat_le, fold, Option, Some, None, if◌then◌else◌, codes}
 use Rattle.clap.specs.Words.{App, Rule, Row, Text, all_of, first_of, one_of, new_app, new_rule, with_rule}
 use Rattle.clap.specs.declared.builder.action.ArgAction.TheVariants.{Set, SetTrue}
-use Rattle.clap.specs.declared.builder.range.ValueRange.{ValueRange}
 use Rattle.mb_words.specs.declared.command.Command.{Command}
 use Rattle.mb_words.specs.declared.command.Command.TheVariants.{Run, Shared, Check, Load, Sides}
 use Rattle.mb_words.specs.declared.command.OptionName.{OptionName}

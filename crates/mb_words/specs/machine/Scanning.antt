@@ -4,7 +4,6 @@ use Rattle.std.specs.Borrow.{Bor}
 use Rattle.mb_words.specs.declared.command.OptionName.{OptionName}
 use Rattle.mb_words.specs.declared.command.OptionName.TheVariants.{Policy, Schedule, Budget, Trace}
 use Rattle.mb_words.specs.declared.fault.WordsKind.TheVariants.{Usage}
-use Rattle.mb_words.specs.declared.fault.WordsKind.{WordsKind}
 use Rattle.mb_words.specs.declared.fault.WordsFault.{WordsFault}
 use Rattle.mb_words.specs.declared.fault.WordsFault.TheVariants.{Refused, NoMemory}
 use Rattle.mb_words.specs.declared.role.Role as code_role

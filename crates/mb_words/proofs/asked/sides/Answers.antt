@@ -1,4 +1,4 @@
-use Rattle.std.proofs.Common.{◌≡◌, ◌∙◌, sym, rules, arith, map, Err, length}
+use Rattle.std.proofs.Common.{◌≡◌, ◌∙◌, rules, arith, map, Err, length}
 use Rattle.std.proofs.lemmas.List.{length-map}
 use Rattle.mb_words.specs.machine.Scanning.{slots_of, text}
 use Rattle.mb_words.proofs.Timed.{sides_refused, sides_given}

@@ -1,6 +1,6 @@
 use Rattle.std.proofs.Common.{◌≡◌, ◌∙◌, ap, map, string_bytes, subst}
 use Rattle.mb_words.specs.Settings.{Answers}
-use Rattle.clap.specs.Words.{app_of, found_of}
+use Rattle.clap.specs.Words.{found_of}
 use Rattle.mb_words.specs.machine.Matching.{in_order}
 use Rattle.mb_words.specs.machine.Scanning.{chosen_by, slots_of, text}
 use Rattle.mb_words.proofs.Getting.{clap_found, clap_takes, some_operands, found_all}

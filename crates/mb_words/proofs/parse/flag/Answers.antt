@@ -1,4 +1,4 @@
-use Rattle.std.proofs.Common.{◌≡◌, ◌∙◌, sym}
+use Rattle.std.proofs.Common.{◌∙◌, sym}
 use Rattle.clap.specs.Words.{found_of}
 use Rattle.mb_words.proofs.Getting.{flag_read}
 use Rattle.mb_words.proofs.parse.flag.Goals as goal

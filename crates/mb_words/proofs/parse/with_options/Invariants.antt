@@ -2,7 +2,6 @@ use Rattle.std.proofs.Common.{◌≡◌, drop}
 use Rattle.std.specs.List.{fold}
 use Rattle.clap.specs.Words.{app_of}
 use Rattle.mb_words.specs.machine.Matching.{with_option, with_options}
-use Rattle.mb_words.specs.Words.{options_of}
 use Rattle.mb_words.proofs.parse.with_options.Given as goal
 
 abbrev pub invariant-loop-name : goal.invariant-loop-name

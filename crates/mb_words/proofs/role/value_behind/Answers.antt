@@ -1,6 +1,4 @@
-use Rattle.std.proofs.Common.{◌≡◌, ◌∙◌, option_map, drop, length, Some, None, if◌then◌else◌, nat_eq, ap, List, ℕ}
-use Rattle.mb_words.specs.Words.{opening}
-use Rattle.mb_words.specs.machine.Scanning.{text}
+use Rattle.std.proofs.Common.{◌∙◌, drop, length, Some, None, if◌then◌else◌, nat_eq, ap, List, ℕ}
 use Rattle.std.specs.List.{starts_with}
 use Rattle.mb_words.proofs.Prefixes.{stripped}
 use Rattle.mb_words.proofs.role.value_behind.Goals as goal

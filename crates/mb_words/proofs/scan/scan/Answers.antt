@@ -1,8 +1,5 @@
-use Rattle.std.proofs.Common.{◌≡◌, ◌∙◌, sym, ap, string_bytes, refl, rules, arith, Err, subst, Result}
-use Rattle.mb_words.specs.declared.fault.WordsFault.{WordsFault}
-use Rattle.mb_words.specs.declared.scan.Chosen as code
-use Rattle.mb_words.specs.Parts.{chosen, cut}
-use Rattle.mb_words.specs.machine.Scanning.{state_of, Chooses}
+use Rattle.std.proofs.Common.{◌≡◌, ◌∙◌, sym, ap, string_bytes, refl, rules, arith, Err}
+use Rattle.mb_words.specs.machine.Scanning.{state_of}
 use Rattle.mb_words.proofs.Turns.{fails, ends, waits_on}
 use Rattle.mb_words.proofs.scan.scan.Goals as goal
 

@@ -1,4 +1,4 @@
-use Rattle.std.proofs.Common.{◌≡◌, ◌<◌, ◌^◌, ap, sym, ◌∙◌, true, arith, rules}
+use Rattle.std.proofs.Common.{◌≡◌, ap, sym, ◌∙◌, true, arith, rules}
 use Rattle.mb_words.specs.Values.{is_number}
 use Rattle.mb_words.proofs.Numbers.{too_large}
 use Rattle.mb_words.proofs.value.number.Goals as goal

@@ -1,4 +1,4 @@
-use Rattle.std.proofs.Common.{◌≡◌, ◌∙◌, Some, None, arith}
+use Rattle.std.proofs.Common.{◌∙◌, Some, None, arith}
 use Rattle.mb_words.proofs.Numbers.{told, past, within}
 use Rattle.mb_words.proofs.value.schedule_fault.Goals as goal
 

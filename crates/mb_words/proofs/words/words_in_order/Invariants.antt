@@ -1,4 +1,4 @@
-use Rattle.std.proofs.Common.{◌≡◌, ◌++◌, ◌∷◌, drop, map, string_bytes}
+use Rattle.std.proofs.Common.{◌≡◌, ◌++◌, drop, map, string_bytes}
 use Rattle.mb_words.specs.machine.Matching.{in_order}
 use Rattle.mb_words.specs.machine.Scanning.{chosen_by, text}
 use Rattle.mb_words.proofs.words.words_in_order.Given as goal
