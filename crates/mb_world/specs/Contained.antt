@@ -1,5 +1,5 @@
 -- Each side holds only its own, and has one proxy for each foreign object.
-use Rattle.std.specs.Prelude.{ℕ, suc, ◌<◌, ◌≡◌, ◌≢◌, ◌++◌, List, [], ◌∷◌, Option, Some, None, Bool, true, false, not, nat_eq, All, slice_get, IfSome}
+use Rattle.std.specs.Prelude.{ℕ, suc, ◌<◌, ◌≡◌, ◌≢◌, ◌++◌, List, [], ◌∷◌, Option, Some, None, Bool, true, false, not, nat_eq, All, slice_get, IsSomeAnd}
 use Rattle.std.specs.List.{filter, flat_map}
 use Rattle.mb_base.specs.declared.value.Side.{Side}
 use Rattle.mb_base.specs.declared.value.ObjId.{ObjId}
@@ -64,13 +64,13 @@ is_shadow kind = false
 
 -- the cell is of that home, and no shadow
 abbrev pub IsOwn : Data → Side → ObjId → Type 0
-IsOwn d side o = IfSome (cell_at d o) (λ c. (c.home ≡ side) × (is_shadow c.kind ≡ false))
+IsOwn d side o = IsSomeAnd (cell_at d o) (λ c. (c.home ≡ side) × (is_shadow c.kind ≡ false))
 
 -- the two references of a membrane proxy: an object of another home, and a shadow of its own
 abbrev pub HasItsTwo : Data → Side → CellKind → Type 0
 HasItsTwo d side (Membrane behind shadow) =
-    IfSome (cell_at d behind) (λ c. (same_side c.home side ≡ false) × (is_shadow c.kind ≡ false))
-    × IfSome (cell_at d shadow) (λ c. (c.home ≡ side) × (is_shadow c.kind ≡ true))
+    IsSomeAnd (cell_at d behind) (λ c. (same_side c.home side ≡ false) × (is_shadow c.kind ≡ false))
+    × IsSomeAnd (cell_at d shadow) (λ c. (c.home ≡ side) × (is_shadow c.kind ≡ true))
 HasItsTwo d side kind = Unit {0}
 
 abbrev pub IsOfTable : CellKind → Type 0
@@ -78,7 +78,7 @@ IsOfTable (BuiltIn place) = intrinsic place ≢ None
 IsOfTable kind = Unit {0}
 
 abbrev pub scope_home : Data → ScopeId → Side → Type 0
-scope_home d s side = IfSome (scope_at d s) (λ x. x.home ≡ side)
+scope_home d s side = IsSomeAnd (scope_at d s) (λ x. x.home ≡ side)
 
 pub record Contained (d : Data) : Type 0 where
   pub cells_own : All (λ c. All (IsOwn d c.home) (in_cell c)) d.cells
@@ -110,7 +110,7 @@ pub record HasProxyOf (d : Data) (side : Side) (serial : ℕ) : Type 0 where
 pub record Paired (d : Data) : Type 0 where
   -- what stands behind a proxy is no proxy, shadow or built-in
   pub behind_is_object : (id behind shadow : ObjId) (side : Side) → IsMembrane d id side behind shadow →
-      IfSome (cell_at d behind) (λ c. stand c ≡ Counted)
+      IsSomeAnd (cell_at d behind) (λ c. stand c ≡ Counted)
   -- a home has one proxy before an object, and shares no shadow between two
   pub one_for_an_object : (i k behind s t : ObjId) (side : Side) → IsMembrane d i side behind s →
       IsMembrane d k side behind t → i ≡ k

@@ -1,5 +1,5 @@
 -- What holds of each world between the calls of a machine.
-use Rattle.std.specs.Prelude.{ℕ, ◌<◌, ◌≤◌, ◌≡◌, ◌≢◌, ◌^◌, ◌-◌, ◌++◌, ◌&&◌, List, [], ◌∷◌, map, Option, Some, None, Bool, true, false, All, slice_get, IfSome, pos, negsuc, ℤ, nat_lt, nat_eq, is_some}
+use Rattle.std.specs.Prelude.{ℕ, ◌<◌, ◌≤◌, ◌≡◌, ◌≢◌, ◌^◌, ◌-◌, ◌++◌, ◌&&◌, List, [], ◌∷◌, map, Option, Some, None, Bool, true, false, All, slice_get, IsSomeAnd, pos, negsuc, ℤ, nat_lt, nat_eq, is_some}
 use Rattle.std.specs.List.{flat_map, IsDistinct}
 use Rattle.mb_base.specs.declared.value.Side.{Side}
 use Rattle.mb_base.specs.declared.value.Key.{Key}
@@ -13,7 +13,6 @@ use Rattle.mb_desc.specs.declared.descriptor.Full.TheVariants.{Datum, Accessor}
 use Rattle.mb_world.specs.declared.cell.Code.{Code}
 use Rattle.mb_world.specs.declared.cell.CellKind.{CellKind}
 use Rattle.mb_world.specs.declared.cell.CellKind.TheVariants.{Array, Function, Proxy, Revoker, Membrane, Shadow, Collection}
-use Rattle.mb_world.specs.declared.cell.Shape.{Shape}
 use Rattle.mb_world.specs.declared.cell.Cell.{Cell}
 use Rattle.mb_world.specs.declared.scope.Scope.{Scope}
 use Rattle.mb_world.specs.declared.entry.Entry.{Entry}
@@ -25,7 +24,7 @@ use Rattle.mb_world.specs.Graph as graph
 use Rattle.mb_world.specs.Graph.{Thing}
 use Rattle.mb_world.specs.Intrinsics.{intrinsic}
 use Rattle.mb_world.specs.Standard.{standard_at}
-use Rattle.mb_world.specs.Objects.{is_callable, is_proxy, shape_of}
+use Rattle.mb_world.specs.Objects.{thing_at, is_callable, is_proxy_kind, shape_of_kind, shape_of_thing}
 use Rattle.mb_world.specs.Data.{Data, Script, cell_at, scope_at, built_in_of, program_of, length_units}
 use Rattle.mb_world.specs.Ids.{Maybe}
 use Rattle.mb_world.specs.Image.{names_of, Resolve, object_in, text_in, thing_in, program_in, rule_in, entry_in, Image}
@@ -137,20 +136,21 @@ pub record IsFunction (d : Data) (home : Side) (code : Code) : Type 0 where
   pub node_is : function_of (form_at d home code.node.0) ≡ Some (code.constructs, is_some code.bound_this)
   pub scope_is : scope_home d code.scope home
 
--- what an object is for whoever calls it: also that of a shadow's object behind
-abbrev pub HasShape : Data → ObjId → Shape → Type 0
-HasShape d id shape = shape_of (Image d []) (object_in (names_of d) id) ≡ shape
+-- the object that an id stands for: of a membrane proxy the one behind
+abbrev pub thing_of : Data → ObjId → Option Thing
+thing_of d id = thing_at (Image d []) (object_in (names_of d) id)
 
 abbrev pub HasItsKind : Data → Side → CellKind → Type 0
 HasItsKind d home (Function code) = IsFunction d home code
+-- the target of a script-made Proxy is none, and gives it its shape
 HasItsKind d home (Proxy (Some target) (Some handler) shape) =
-    (is_proxy (Image d []) (object_in (names_of d) target) ≡ false) × HasShape d target shape
+    IsSomeAnd (thing_of d target) (λ t. (is_proxy_kind t.kind ≡ false) × (shape_of_kind t.kind ≡ shape))
 HasItsKind d home (Proxy None None shape) = Unit {0}
 HasItsKind d home (Proxy target handler shape) = ⊥
-HasItsKind d home (Revoker proxy) = IfSome (cell_at d proxy) (λ c. IsProxyKind c.kind)
+HasItsKind d home (Revoker proxy) = IsSomeAnd (cell_at d proxy) (λ c. IsProxyKind c.kind)
 -- a shadow has the shape of what is behind
 HasItsKind d home (Membrane behind shadow) =
-    IfSome (cell_at d shadow) (λ c. (shape : Shape) → c.kind ≡ Shadow shape → HasShape d behind shape)
+    IsSomeAnd (cell_at d shadow) (λ c. c.kind ≡ Shadow (shape_of_thing (thing_of d behind)))
 HasItsKind d home kind = Unit {0}
 
 pub record FormedCell (d : Data) (c : Cell) : Type 0 where
