@@ -11,3 +11,4 @@ pub mod LongTexts
 pub mod Arrays
 pub mod AfterCalls
 pub mod BoundNames
+pub mod Grouped

@@ -1,6 +1,6 @@
 -- A world as plain data: the lists and flags that its calls tell, and the world after each call.
 use Rattle.std.specs.Prelude.{ℕ, suc, zero, ◌<◌, ◌≤◌, ◌≡◌, ◌+◌, nat_eq, ◌-◌, ◌^◌, Bool, true, false, ◌&&◌, ◌||◌, List, [], ◌∷◌, ◌++◌, length, take, drop, Option, Some, None, slice_get, slice_set, slice_index_or, map, option_map, position, codes, pos}
-use Rattle.std.specs.List.{position_or_len}
+use Rattle.std.specs.List.{filter, position_or_len}
 use Rattle.std.specs.Str.{bytes_eq as same_text}
 use Rattle.mb_base.specs.declared.value.StrId.{StrId}
 use Rattle.mb_base.specs.declared.value.SymId.{SymId}
@@ -111,6 +111,14 @@ queue_of d side = slice_index_or d.queues side.0 []
 
 abbrev pub program_of : Data → Side → Option Script
 program_of d side = slice_index_or d.programs side.0 None
+
+-- the text of a rule's label
+abbrev pub label_of : Rule → ℕ
+label_of r = r.label.0
+
+-- the rules for a label
+abbrev pub labelled : StrId → List Rule → List Rule
+labelled label rules = filter (λ r. nat_eq (label_of r) label.0) rules
 
 abbrev pub description_of : Data → SymId → Option StrId
 description_of d id = slice_index_or d.symbols id.0 None

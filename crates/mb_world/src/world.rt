@@ -80,9 +80,7 @@ impl World {
             scopes: Vec::new(alloc),
             queues,
             entries: Vec::new(alloc),
-            rules: Rules {
-                rows: Vec::new(alloc),
-            },
+            rules: Rules::none(alloc),
             revoked: false,
             joined: false,
             halted: false,
@@ -252,7 +250,7 @@ impl World {
 
     /// The rules of the policy.
     pub fn rules(&self) -> &Rules
-        ensures { result.now.rows.items ≡ self.now.rules }
+        ensures { result.now ≡ self.now.rules }
     {
         &self.rules
     }

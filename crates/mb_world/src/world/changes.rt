@@ -82,8 +82,8 @@ impl World {
 
     /// Sets the rules of the policy.
     pub fn set_rules(&mut self, rules: Rules)
-        requires { All (RuleIn self.old) rules.rows.items }
-        ensures { self.new ≡ record self.old { rules = rules.rows.items } }
+        requires { All (RuleIn self.old) rules }
+        ensures { self.new ≡ record self.old { rules = rules } }
     {
         self.rules = rules;
     }
