@@ -33,7 +33,7 @@ use Rattle.mb_world.specs.Image.{Names, names_of, stood, Resolve, key_in, full_i
 use Rattle.mb_world.proofs.Worlds.{All-insert}
 use Rattle.mb_ordinary.specs.Objects.{object_of}
 use Rattle.mb_ordinary.specs.Definitions.{DescIn, TellsApart, compared, desc_values, property_values, accepted, accepted_by}
-use Rattle.mb_ordinary.proofs.SameKeys.{find-found, put-insert, own-equal, own-same, same-key}
+use Rattle.mb_world.proofs.SameKeys.{find-found, put-insert, own-equal, own-same, same-key}
 use Rattle.mb_ordinary.proofs.Cells.{validated-is}
 use Rattle.mb_array.specs.declared.Defined.{Defined}
 use Rattle.mb_array.specs.declared.Defined.TheVariants.{Answer, Range, Kind}

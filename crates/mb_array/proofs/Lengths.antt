@@ -20,7 +20,7 @@ use Rattle.mb_world.specs.Data.{Data, property_in, length_units, length_id, leng
 use Rattle.mb_world.specs.Ids.{TextIn, KeyIn, PropertyIn}
 use Rattle.mb_world.specs.Image.{names_of, key_in}
 use Rattle.mb_world.proofs.Arrays.{place-found, place-new, length-no-index}
-use Rattle.mb_ordinary.proofs.SameKeys.{own-equal}
+use Rattle.mb_world.proofs.SameKeys.{own-equal}
 use Rattle.mb_array.specs.Define.{HasItsLength}
 use Rattle.mb_array.specs.machine.Done.{HasCell, LengthIs, length_parts}
 

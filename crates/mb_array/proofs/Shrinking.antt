@@ -31,7 +31,7 @@ use Rattle.mb_world.specs.Ids.{KeyIn, PropertyIn}
 use Rattle.mb_world.specs.Image.{Names, names_of, full_in, key_in, property_in}
 use Rattle.mb_world.proofs.Worlds.{All-without}
 use Rattle.mb_array.specs.machine.Cutting.{is_from, AreIndicesFrom, Cut, cut_of}
-use Rattle.mb_ordinary.proofs.SameKeys.{find-found, remove-without, own-equal}
+use Rattle.mb_world.proofs.SameKeys.{find-found, remove-without, own-equal}
 use Rattle.mb_ordinary.proofs.Sorting.{low-index, in_order, in-order, are-indices, All-in_order, indexed, indices-are}
 
 and-second : (a b : Bool) → a && b ≡ true → b ≡ true

@@ -18,7 +18,7 @@ use Rattle.mb_world.specs.Ids.{Maybe, ValueIn, FullIn}
 use Rattle.mb_world.specs.Image.{Names, names_of, Resolve, full_in, desc_in}
 use Rattle.mb_world.specs.Formed.{option_values, full_values}
 use Rattle.mb_ordinary.specs.Definitions.{TellsApart, desc_values, property_values, DescIn}
-use Rattle.mb_ordinary.proofs.Values.{Apart, same-as}
+use Rattle.mb_world.proofs.Values.{Apart, same-as}
 
 -- ---- fields
 

@@ -26,7 +26,7 @@ use Rattle.mb_world.specs.Image.{Names, names_of, Resolve, full_in, desc_in, key
 use Rattle.mb_world.proofs.Stands.{stands-set}
 use Rattle.mb_ordinary.specs.Objects.{IsOrdinary, object_of, object_at, property_of}
 use Rattle.mb_ordinary.specs.Definitions.{TellsApart, compared, desc_values, property_values, DescIn, accepted, defined_at, as_defined, is_loose, deleted_at, as_deleted}
-use Rattle.mb_ordinary.proofs.SameKeys.{find-found, put-insert, remove-without}
+use Rattle.mb_world.proofs.SameKeys.{find-found, put-insert, remove-without}
 use Rattle.mb_ordinary.proofs.Accepting.{validate-map, compares-there, accepted-in}
 
 -- the cell is there

@@ -2,8 +2,6 @@ pub mod Accepting
 pub mod Cells
 pub mod InTheGraph
 pub mod OwnKeys
-pub mod SameKeys
 pub mod Sorting
 pub mod Spelled
-pub mod Values
 pub mod Visiting

@@ -18,8 +18,8 @@ use Rattle.mb_world.specs.Key.{PropertyKey, put_index, with_index, indices, keep
 use Rattle.mb_world.specs.Data.{Data}
 use Rattle.mb_world.specs.Ids.{KeyIn}
 use Rattle.mb_world.specs.Image.{names_of, key_in}
-use Rattle.mb_ordinary.proofs.Values.{text-apart}
-use Rattle.mb_ordinary.proofs.SameKeys.{own-same}
+use Rattle.mb_world.proofs.Values.{text-apart}
+use Rattle.mb_world.proofs.SameKeys.{own-same}
 use Rattle.mb_ordinary.proofs.Spelled.{index_in, key-index}
 
 -- ---- keys put in order by their index

@@ -20,7 +20,7 @@ use Rattle.mb_ordinary.specs.declared.answers.Visit.TheVariants.{Meets, Ends, On
 use Rattle.mb_ordinary.specs.Objects.{IsOrdinary, object_of, object_at}
 use Rattle.mb_ordinary.specs.Definitions.{TellsApart}
 use Rattle.mb_ordinary.specs.Walks.{real, visit_of, visited, visited_as, TellsReal, Walked, Unpaid, Answered, after_visit, walked, Visits, Here, Later, answered_by, answered, or_walked, proto_set, proto_set_as, proto_of, TellsWalk}
-use Rattle.mb_ordinary.proofs.Values.{value-same, value-equal, same-as}
+use Rattle.mb_world.proofs.Values.{value-same, value-equal, same-as}
 use Rattle.mb_ordinary.proofs.Cells.{cell-there, at-object}
 
 pub ordinary-in : (d : Data) (o : ObjId) → IsOrdinary (cell_at d o) → ObjIn d o

@@ -12,3 +12,5 @@ pub mod Arrays
 pub mod AfterCalls
 pub mod BoundNames
 pub mod Grouped
+pub mod Values
+pub mod SameKeys

@@ -35,7 +35,7 @@ use Rattle.mb_world.specs.Key.{PropertyKey, Named, SymbolKey}
 use Rattle.mb_world.specs.Form.{Form}
 use Rattle.mb_world.specs.FormOf.{TreeNode, form_of}
 use Rattle.mb_world.specs.Graph.{Graph, Thing, Kind, Plain, Array, Function, Standard, Fault, Proxy, Gone, Revoker, Collection, Slots, Property, Code, Scope, Binding, Job, Script as ScriptJob, Call, Program, ScopeName, Rule, RuleKind, Hide, ReadOnly, Substitute, Revoke, Said, SaidNothing, SaidFlag, SaidValue, SaidAbsent, SaidProperty, SaidKeys, SaidThrow, SaidPair, Entry, Item}
-use Rattle.mb_world.specs.Data.{Data, Script, Stand, Counted, AtPlace, Before, Hidden, stands, numbers, is_object_cell}
+use Rattle.mb_world.specs.Data.{Data, Script, Stand, Counted, AtPlace, Before, Hidden, stands, numbers, cell_at, is_object_cell}
 
 -- what references are read by: the texts, and what each cell stands for
 pub record Names : Type 0 where
@@ -140,6 +140,18 @@ thing_in n c = record {
   extensible = c.extensible;
   properties = map (property_in n) c.props;
 }
+
+-- the side that owns a cell; a built-in is of every side
+abbrev pub owner_by : CellKind → Side → Option ℕ
+owner_by (c.BuiltIn place) home = None
+owner_by kind home = Some home.0
+
+-- the object that a cell is, a built-in too
+abbrev pub object_of : Names → Cell → Thing
+object_of n c = record (thing_in n c) { owner = owner_by c.kind c.home }
+
+abbrev pub object_at : Data → ObjId → Option Thing
+object_at d o = option_map (object_of (names_of d)) (cell_at d o)
 
 -- membrane proxies, shadows and built-ins leave nothing
 abbrev pub things_in : Names → List Cell → List Thing

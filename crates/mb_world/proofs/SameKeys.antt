@@ -1,5 +1,5 @@
 -- Keys by id and keys by units are the same keys, so a table of the world is the list of an object's properties.
-use Rattle.std.proofs.Common.{◌≡◌, ℕ, List, [], ◌∷◌, Bool, true, false, ◌&&◌, nat_eq, Option, Some, None, refl, sym, ap, ◌∙◌, true≢false, map, option_map}
+use Rattle.std.proofs.Common.{◌≡◌, List, [], ◌∷◌, Bool, true, false, nat_eq, refl, sym, ap, ◌∙◌, true≢false, map, option_map}
 use Rattle.std.specs.Prelude.{All}
 use Rattle.std.proofs.lemmas.Bool.{eqb-true, eq-eqb}
 use Rattle.std.proofs.lemmas.List.Elements.{All-head, All-tail}
@@ -12,14 +12,13 @@ use Rattle.mb_desc.specs.declared.descriptor.Full.{Full}
 use Rattle.mb_props.specs.Table.{same_key, found, insert_entry, without}
 use Rattle.mb_text.specs.Texts.{AreDistinct, text_at}
 use Rattle.mb_text.specs.Index.{index_of}
-use Rattle.mb_world.specs.Value.{same_units}
 use Rattle.mb_world.specs.Key.{PropertyKey, Named, SymbolKey}
 use Rattle.mb_world.specs.Key as graph
 use Rattle.mb_world.specs.Objects.{find_property, put_property, remove_property}
 use Rattle.mb_world.specs.Data.{Data}
 use Rattle.mb_world.specs.Ids.{KeyIn, PropertyIn}
 use Rattle.mb_world.specs.Image.{names_of, key_in, full_in, property_in}
-use Rattle.mb_ordinary.proofs.Values.{both-true, units-same, units-equal, text-apart}
+use Rattle.mb_world.proofs.Values.{both-true, units-same, units-equal, text-apart}
 
 -- ---- equal keys are the same key
 
