@@ -21,7 +21,7 @@ make_symbol fail type_error range_error reference_error or_type_error unless_typ
 # the modules with what is written by hand
 BY_HAND = {
     "Words": "add_scope with_job giving",
-    "Made": "make_constructor make_function fromdesc",
+    "Made": "make_constructor make_function fromdesc proxy_create",
     "Defined": "settled stored_in store_element define_on prop_defined must_define freeze_found flag_row revoke_proxy",
     "Methods": """prototype_set walk_from walk_at walk_row walk_unless ordinary_set_prototype ordinary_delete ordinary ruled method
 trap_got proxy_method perform_kind perform_thing perform_row""",
@@ -129,9 +129,11 @@ class Clause:
         self.given, self.fits = given, fits
 
     def fit(self, task):
-        """That a task fits."""
+        """That a task fits, and sees by itself what it may make an entry of."""
         task = bare(task)
-        return self.fits.get(task, "(λ _ _. %s)" % ("refl" if "DefineOwnProperty" in task else "tt"))
+        fits = "refl" if "DefineOwnProperty" in task else "tt"
+        itself = "λ _ _. refl" if task.startswith("perform ") else "λ _. tt"
+        return self.fits.get(task, "(λ _. (λ _. %s, %s))" % (fits, itself))
 
     def body(self, first, rest):
         if first != "do":
@@ -174,6 +176,8 @@ class Clause:
             raise SystemExit("no lemma for %s" % text)
         if head == "ends":
             arguments = arguments + ["tt"]
+        if head == "log":
+            arguments = arguments + ["refl"]
         if head in TASKS:
             arguments = arguments + [self.fit(arguments[0])]
         if head == "make":
@@ -215,7 +219,7 @@ def lemma(definition):
             signature.append("(%s : %s)" % (x, type_))
             if type_ == "Task":
                 tasks.append(len(names))
-                signature.append("(p%d : (g : Graph) → kept.cares → Fits %s g)" % (len(names), x))
+                signature.append("(p%d : (g : Graph) → Fitted kept %s g)" % (len(names), x))
             if "Does" in type_:
                 parts.append(len(names))
                 taken = split(bare(type_), "→")[:-1]
@@ -265,10 +269,9 @@ def imports(module, body):
     for block in re.findall(r"^pub data .*? where\n((?:  .*\n)+)", text, re.M):
         own += re.findall(r"^  (\w+) :", block, re.M)
     lines["Rattle.mb_model.specs." + module] = own + list(FOUND[module])
-    lines["Rattle.mb_model.specs.Fitting"] = ["Fits"]
     lines.setdefault("Rattle.mb_world.specs.Graph", []).append("Graph")
     lines["Rattle.std.proofs.Common"] = ["refl"]
-    lines["Rattle.mb_model.proofs.Kept.Words"] = ["Kept", "Goes"]
+    lines["Rattle.mb_model.proofs.Kept.Words"] = ["Kept", "Fitted", "Goes"]
     lines["Rattle.mb_model.proofs.Kept.Made"] = sorted(set(re.findall(r"(?<=\()new-[^\s()]+", body)))
     for lemma_ in sorted(set(re.findall(r"keeps-[^\s()]+", body))):
         name = lemma_[6:]

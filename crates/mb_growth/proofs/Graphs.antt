@@ -48,7 +48,7 @@ one-moves g (Text x) t u all at h = (all, stays-later g)
 one-moves g (Symbol x) t u all at h = (all, stays-later g)
 
 -- a new object
-append-get : (ts : List Thing) (t : Thing) (m : ℕ) (v : Thing) → slice_get ts m ≡ Some v → slice_get (ts ++ (t ∷ [])) m ≡ Some v
+pub append-get : (ts : List Thing) (t : Thing) (m : ℕ) (v : Thing) → slice_get ts m ≡ Some v → slice_get (ts ++ (t ∷ [])) m ≡ Some v
 append-get [] t m v got = absurd (let bad : None ≡ Some v = got in cc)
 append-get (x ∷ ts) t zero v got = got
 append-get (x ∷ ts) t (suc m) v got = append-get ts t m v got

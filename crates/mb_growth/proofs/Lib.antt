@@ -7,6 +7,8 @@ pub mod Sides
 pub mod Made
 pub mod Runs
 pub mod Turns
+pub mod Throughout
+pub mod Targets
 pub mod Seen
 pub mod Ends
 pub mod There

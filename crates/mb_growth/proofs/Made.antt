@@ -11,12 +11,12 @@ use Rattle.mb_world.specs.Value.{Val, Whole}
 use Rattle.mb_world.specs.Key.{PropertyKey, same_key}
 use Rattle.mb_world.specs.Property.{open_property}
 use Rattle.mb_desc.specs.Descriptors.{no_fields, descriptor_of}
-use Rattle.mb_world.specs.Graph.{Thing, Kind, Plain, Array, Function, Standard, Fault, Proxy, Gone, Revoker, Collection, Property}
+use Rattle.mb_world.specs.Graph.{Graph, Thing, Kind, Plain, Array, Function, Standard, Fault, Proxy, Gone, Revoker, Collection, Property}
 use Rattle.mb_world.specs.Objects.{own_property, with_property, new_thing}
 use Rattle.mb_world.specs.Arrays.{index_key, length_key, with_length, put_elements}
 use Rattle.mb_model.specs.Operations.Calls.{target_is_array}
 use Rattle.mb_model.specs.Operations.Makings.{array_thing}
-use Rattle.mb_model.proofs.Kept.Changes.{put_each, IsNew, NewArray, NewOther}
+use Rattle.mb_model.proofs.Kept.Changes.{put_each, is_other, IsNew, NewArray, NewOther, IsMade, Apart, ProxyOf}
 use Rattle.mb_growth.specs.Objects.{as_view, is_array, HasLength, IsFormed}
 use Rattle.mb_growth.proofs.Values.{key-sound, key-refl}
 use Rattle.mb_growth.proofs.Bridge.{with-is}
@@ -70,11 +70,30 @@ array-formed s p n vs =
     elements-lengthy length t 0 vs t.properties (with-distinct length_key length (new_thing s None Array p) nothing-distinct, refl) in
     record { distinct = h.0; array = λ a. (Whole (pos n), true, h.1) }
 
-pub new-formed : (t : Thing) → IsNew t → IsFormed t
+other-no_array : (k : Kind) → is_other k ≡ true → is_array k ≡ false
+other-no_array Plain h = refl
+other-no_array Array h = sym h
+other-no_array (Function c) h = refl
+other-no_array (Standard p) h = refl
+other-no_array (Fault e) h = refl
+other-no_array (Proxy t handler s) h = refl
+other-no_array (Gone s) h = refl
+other-no_array (Revoker p) h = refl
+other-no_array (Collection c s) h = refl
+
+new-formed : (t : Thing) → IsNew t → IsFormed t
 new-formed t (NewArray s p n vs e) = subst IsFormed e (array-formed s p n vs)
 new-formed t (NewOther other puts) =
     record {
       distinct = subst (λ (ps : List Property). HasDistinctKeys same_key (as_view (record t { properties = ps }))) puts.1
           (puts-distinct t puts.0);
-      array = λ a. absurd (let bad : true ≡ false = sym a ∙ same-array t.kind ∙ other in cc);
+      array = λ a. absurd (let bad : true ≡ false = sym a ∙ other-no_array t.kind other in cc);
     }
+
+pub made-formed : (g : Graph) (t : Thing) → IsMade g t → IsFormed t
+made-formed g t (Apart new) = new-formed t new
+made-formed g t (ProxyOf s target handler shape able e) =
+    subst IsFormed e (record {
+      distinct = nothing-distinct;
+      array = λ a. absurd (let bad : false ≡ true = a in cc);
+    })

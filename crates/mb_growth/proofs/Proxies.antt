@@ -23,7 +23,7 @@ use Rattle.mb_model.specs.Trace.Ops.{op_of}
 use Rattle.mb_model.specs.Trace.Entries.{makes_entry, method_noted}
 use Rattle.mb_model.specs.Meaning.{perform_kind, perform_thing, perform_row, finished, entries_made, row, Ends}
 use Rattle.mb_model.proofs.Engine.{given-row}
-use Rattle.mb_model.proofs.Kept.Words.{Along, Gets, At, along-log, gets-after, gets-fail}
+use Rattle.mb_model.proofs.Kept.Words.{Along, Gets, At, gets-after, gets-fail}
 use Rattle.mb_model.proofs.Kept.Made.{keeps-fromdesc}
 use Rattle.mb_model.proofs.Kept.Descriptors.{keeps-todesc}
 use Rattle.mb_model.proofs.Kept.OperationsCalls.{keeps-get, keeps-list_of}
@@ -226,7 +226,7 @@ row-owes s v n p k m t u handler shape b at e owner target formed fit =
 noted-owes : (p : ℕ) (k : Val) (began s : ℕ) (o : Val) (m : Method) (b : Graph) (q : Outcome) (g : Graph) → Along (answering p k m) b g → Owes p k m b q g
     → Along (answering p k m) b (method_noted began s o m q g) × Owes p k m b q (method_noted began s o m q g)
 noted-owes p k began s o m b q g along owes = (
-  along-log (answering p k m) b g (method_noted began s o m q g).log along,
+  (λ a x. along.0 a x, along.1),
   record { moment = owes.moment; begun = owes.begun; ended = owes.ended; rules = owes.rules; passes = owes.passes },
 )
 
@@ -248,6 +248,7 @@ given-between s v n p k m enters t u handler shape b f at e owner target fit for
     (row-owes s v n p k m t u handler shape b at e owner target formed fit finished b along (λ a g q owed. (q, owed))))))
 
 pub proxy-entries-pass : ProxyEntriesPass
-proxy-entries-pass s v n target handler shape m enters t u graph zero at e there ordinary fit formed = tt
-proxy-entries-pass s v n target handler shape m enters t u graph (suc f) at e there ordinary fit formed =
-    given-between s v n (owner_or s t.owner) target m enters t u handler shape graph f at e refl (there, ordinary) fit formed
+proxy-entries-pass s v n target handler shape m enters t graph zero at e has fit formed = tt
+proxy-entries-pass s v n target handler shape m enters t graph (suc f) at e has fit formed =
+    let u = has n t target handler shape at e in
+    given-between s v n (owner_or s t.owner) target m enters t u.0 handler shape graph f at e refl (u.1, u.2) fit formed

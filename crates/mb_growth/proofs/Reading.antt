@@ -193,6 +193,7 @@ with_thing-rules g o u = beside-objects (λ h. h.rules ≡ g.rules) g o u (λ ts
 abbrev pub answering : ℕ → Val → Method → Kept
 answering p k m = record {
   cares = Unit {0};
+  owns = ⊥;
   to = Reaches;
   owed = Owes p k m;
   ended = λ b g q abrupt h. owes-now p k m b g q h (λ u at. abrupt-passes m q abrupt (Shown g p u));
@@ -203,13 +204,14 @@ answering p k m = record {
   moved = λ f g o t u at by h. (growing.moved f g o t u at by h.0, with_thing-rules g o u ∙ h.1);
   symbols = λ f g ds h. h;
   scopes = λ f g ss h. h;
-  log = λ f g is h. h;
+  log = λ f g i none h. h;
   job = λ f g s v h. h;
 }
 
 abbrev reaching : Kept
 reaching = record {
   cares = Unit {0};
+  owns = ⊥;
   to = Reaches;
   owed = λ b q g. Unit {0};
   ended = λ b g q abrupt h. tt;
@@ -220,7 +222,7 @@ reaching = record {
   moved = λ f g o t u at by h. (growing.moved f g o t u at by h.0, with_thing-rules g o u ∙ h.1);
   symbols = λ f g ds h. h;
   scopes = λ f g ss h. h;
-  log = λ f g is h. h;
+  log = λ f g i none h. h;
   job = λ f g s v h. h;
 }
 
@@ -260,4 +262,4 @@ task-known (Visit a b c d e i) s f = any-known (Means (Visit a b c d e i) s f)
 pub does-so : (p : ℕ) (k : Val) (m : Method) → DoesSo (answering p k m) (given row)
 does-so p k m t s f fit a =
     with-known p k m t s (given row t s f)
-    (given-known reaching (record { owes = λ b g o h. tt; knows = λ u b g o. tt }) t s f fit a) (task-known t s (suc f))
+    (given-known reaching (record { owes = λ b g o h. tt; knows = λ u b g o. tt; notes = λ b g e h. h }) t s f fit a) (task-known t s (suc f))

@@ -21,7 +21,7 @@ use Rattle.mb_growth.proofs.Steps.{later-refl, ordinary-moves, deletions-move, p
 use Rattle.mb_growth.proofs.Arrays.{definitions-move, elements-move}
 use Rattle.mb_growth.proofs.Graphs.{stays-later, goes-on-later, one-moves, one-is-made}
 use Rattle.mb_growth.proofs.Sides.{each-side-sees}
-use Rattle.mb_growth.proofs.Made.{new-formed, same-array}
+use Rattle.mb_growth.proofs.Made.{made-formed, same-array}
 
 -- another kind, which is an array's as little or as much
 recast-moves : (t : Thing) (k : Kind) → IsFormed t → target_is_array t.kind ≡ target_is_array k
@@ -41,7 +41,7 @@ change-moves g t u formed (Storing n v b array e) = elements-move t u n v b form
 change-moves g t u formed (Deletion v k free e) = deletions-move g v t u k formed free e
 change-moves g t u formed (NewPrototype p extensible e) = subst (Moves t) e (prototypes-move t p formed (extensible tt))
 change-moves g t u formed (Closing e) = subst (Moves t) e (closing-moves t formed)
-change-moves g t u formed (Recast k same proxy e) = subst (Moves t) e (recast-moves t k formed same proxy)
+change-moves g t u formed (Recast k same proxy none e) = subst (Moves t) e (recast-moves t k formed same proxy)
 
 -- the graph is formed, and each object of an earlier one is there in a later form
 abbrev pub Grows : Graph → Graph → Type 0
@@ -64,26 +64,27 @@ grows-on f g h p q = (q.0, goes-on-later f g h p.1 q.1)
 abbrev pub growing : Kept
 growing = record {
   cares = Unit {0};
+  owns = ⊥;
   to = Grows;
   owed = λ b o g. Unit {0};
   ended = λ b g o abrupt h. tt;
   known = λ t s o g. Unit {0};
   stays = λ f g p. (p.0, stays-later g);
   goes_on = grows-on;
-  made = λ f g t new p. grows-on f g (with_object t g) p (one-is-made g t p.0 (new-formed t new));
+  made = λ f g t new p. grows-on f g (with_object t g) p (one-is-made g t p.0 (made-formed g t new));
   moved = λ f g o t u at by p. grows-on f g (with_thing o u g) p (change-grows g o t u at by p.0);
   symbols = λ f g ds p. p;
   scopes = λ f g ss p. p;
-  log = λ f g is p. p;
+  log = λ f g i none p. p;
   job = λ f g s v p. p;
 }
 
 pub plainly : IsPlain growing
-plainly = record { owes = λ b g o h. tt; knows = λ t s g o. tt }
+plainly = record { owes = λ b g o h. tt; knows = λ t s g o. tt; notes = λ b g e p. p }
 
 pub tasks-evolve : TasksEvolve
 tasks-evolve task graph fuel fit formed =
-    means-goes growing plainly task graph fuel (λ c. fit) (formed, stays-later graph)
+    means-goes growing plainly task graph fuel (λ c. fit, λ c. absurd c) (formed, stays-later graph)
 
 pub sides-see-tasks-evolve : SidesSeeTasksEvolve
 sides-see-tasks-evolve task graph fuel fit formed v n t at =

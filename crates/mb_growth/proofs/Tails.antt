@@ -56,7 +56,7 @@ pub gets-answer : (kept : Kept) (g : Graph) (t : Task) → Fits t g
     → Gets kept (λ a h. kept.known t g (Normal a) h) g (answer t)
 gets-answer kept g t fit k b p h = (
   p,
-  λ c. fit,
+  (λ c. fit, λ c. absurd c),
   λ o s q known.
       passed kept b s o k (along-on kept b g s p q)
       (λ a e. h a s q (subst (λ (x : Outcome). kept.known t g x s) e known)),

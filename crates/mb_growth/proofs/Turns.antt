@@ -18,8 +18,8 @@ first-is-formed programs rules zero t at = let e : desk ≡ t = cc in subst IsFo
 first-is-formed programs rules (suc n) t at = absurd (let bad : None ≡ Some t = at in cc)
 
 job-grows : (s : ℕ) (j : Job) (g : Graph) (f : ℕ) → AreFormed g → EndHolds growing g (job_ends s j g f)
-job-grows s Script g f formed = given-holds growing plainly _ g f (λ _. tt) (formed, stays-later g)
-job-grows s (CallJob v) g f formed = means-holds growing plainly _ g f (λ _. tt) (formed, stays-later g)
+job-grows s Script g f formed = given-holds growing plainly _ g f (λ _. tt, λ c. absurd c) (formed, stays-later g)
+job-grows s (CallJob v) g f formed = means-holds growing plainly _ g f (λ _. tt, λ c. absurd c) (formed, stays-later g)
 
 ended-grows : (t : Stage) (s : ℕ) (g : Graph) (r : Ends) → EndHolds growing g r → Grows g (after t s (turn_ended s r)).graph
 ended-grows t s g (Gives (Normal a) h f) p = p

@@ -19,6 +19,7 @@ use Rattle.mb_model.specs.Trace.Entries.{key_of_method, given_of, said_outcome}
 use Rattle.mb_model.specs.Trace.Lawful.{deed_by, deed_of}
 use Rattle.mb_model.specs.Trace.Answers.{passes}
 use Rattle.mb_growth.specs.Later.{AreFormed, EachEvolves}
+use Rattle.mb_growth.specs.Targets.{HasTargets}
 
 -- the entry of a method that ended so passes against a view
 abbrev pub EntryPasses : Method → Outcome → View PropertyKey Val → Type 0
@@ -62,11 +63,11 @@ EndBetween p o m before (Gives q after fuel) = PassesBetween p o m before q afte
 EndBetween p o m before (Spent after fuel) = Unit {0}
 
 -- a method of a script-made Proxy passes against what the Proxy's owner sees of the target at some moment before it
--- ends; no Proxy has a Proxy as its target
+-- ends; that targets are there and are no Proxies holds wherever a run comes (RunsHaveTargets)
 abbrev pub ProxyEntriesPass : Type 0
-ProxyEntriesPass = (s v n : ℕ) (target handler : Val) (shape : Shape) (m : Method) (enters : Bool) (t u : Thing)
+ProxyEntriesPass = (s v n : ℕ) (target handler : Val) (shape : Shape) (m : Method) (enters : Bool) (t : Thing)
     (graph : Graph) (fuel : ℕ) → slice_get graph.objects n ≡ Some t → t.kind ≡ Proxy target handler shape
-    → thing_at graph target ≡ Some u → is_proxy_kind u.kind ≡ false → FitsMethod m → AreFormed graph
+    → HasTargets graph → FitsMethod m → AreFormed graph
     → EndBetween (owner_or s t.owner) target m graph (Means (Perform s m (Object n) v enters) graph fuel)
 
 -- ---- the checks of a Proxy's traps

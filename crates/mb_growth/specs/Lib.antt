@@ -1,5 +1,6 @@
 pub mod Objects
 pub mod Later
+pub mod Targets
 pub mod Laws
 pub mod Answered
 pub mod Needs

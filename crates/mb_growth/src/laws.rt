@@ -1,6 +1,7 @@
 // The laws of single changes, and of graphs.
 ghost use Rattle.mb_growth.specs.Answered.{OrdinaryEntriesPass, ProxyEntriesPass, ChecksTell};
 ghost use Rattle.mb_growth.specs.Needs.{WalksMustFit, DefinitionsMustFit};
+ghost use Rattle.mb_growth.specs.Targets.{TasksKeepTargets, FirstHasTargets, TurnsKeepTargets, LettersKeepTargets, RunsHaveTargets};
 ghost use Rattle.mb_growth.specs.Laws.{DefinitionsMove, ElementsMove, DeletionsMove, PrototypesMove, ClosingMoves, StaysLater, GoesOnLater, OneMoves, OneIsMade, SeesByRules, EachSideSees, TasksEvolve, SidesSeeTasksEvolve, FirstIsFormed, TurnsEvolve, LettersEvolve, RunsEvolve};
 
 /// Whatever an internal method makes of an object, the object evolves, and keeps its owner and label.
@@ -39,6 +40,16 @@ pub fn runs_evolve()
     ensures turns { TurnsEvolve }
     ensures letters { LettersEvolve }
     ensures whole { RunsEvolve }
+{}
+
+/// The target of every script-made Proxy is there and is no script-made Proxy: no task makes another, whatever it is and
+/// however it ends. A Proxy keeps its target until it is gone, and nothing else gets one.
+pub fn targets_are_no_proxies()
+    ensures tasks { TasksKeepTargets }
+    ensures first { FirstHasTargets }
+    ensures turns { TurnsKeepTargets }
+    ensures letters { LettersKeepTargets }
+    ensures whole { RunsHaveTargets }
 {}
 
 /// What a method of an object that is no script-made Proxy answers passes the checks of a Proxy's trap against what the

@@ -2,14 +2,14 @@ use Rattle.std.proofs.Common.{◌≡◌, ℕ, zero, suc, ◌+◌, ◌-◌, ◌<�
 use Rattle.std.proofs.lemmas.Bool.Decides.{nat_tests}
 use Rattle.mb_model.specs.Engine.{Res, Gives, Spent, Prog, Ret, Pay, Turn, Do, Again, Doing, by, meaning, left_of, and_then, charged, exec, within, given, means, under, leading, charged_row, ending, ends_with}
 
-abbrev bit : Bool → ℕ
+abbrev pub bit : Bool → ℕ
 bit true = 1
 bit false = 0
 
-abbrev Falls : {T O S : Type 0} → (T → S → ℕ → Res O S) → Type 0
+abbrev pub Falls : {T O S : Type 0} → (T → S → ℕ → Res O S) → Type 0
 Falls {T} {O} {S} r = (t : T) (s : S) (f : ℕ) → left_of (r t s f) ≤ f
 
-abbrev Agree : {T O S : Type 0} → ℕ → (T → S → ℕ → Res O S) → (T → S → ℕ → Res O S) → Type 0
+abbrev pub Agree : {T O S : Type 0} → ℕ → (T → S → ℕ → Res O S) → (T → S → ℕ → Res O S) → Type 0
 Agree {T} {O} {S} n r r' = (t : T) (s : S) (f : ℕ) → f < n → r t s f ≡ r' t s f
 
 -- a charge leaves no more than there was
@@ -58,7 +58,7 @@ and_then_same (Gives o s f) r' k k' n e h a = rw (← e) (a o s f h)
 and_then_same (Spent s f) r' k k' n e h a = rw (← e) refl
 
 -- two ways to do tasks that agree on less fuel do a row alike
-exec_same : {T O S : Type 0} (r r' : T → S → ℕ → Res O S) (n : ℕ) → Falls r → Agree n r r' →
+pub exec_same : {T O S : Type 0} (r r' : T → S → ℕ → Res O S) (n : ℕ) → Falls r → Agree n r r' →
     (b : Bool) (p : Prog T O S) (f : ℕ) → f + bit b ≤ n → exec (by r) b p f ≡ exec (by r') b p f
 exec_same r r' n h a b (Ret o s) f l = refl
 exec_same r r' n h a b (Pay m s p) f l = if_same (nat_lt f m) _ _ _ (exec_same r r' n h a b p (f - m) (omega arith))

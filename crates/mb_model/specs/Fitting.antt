@@ -16,3 +16,8 @@ abbrev pub Fits : Task → Graph → Type 0
 Fits (Walk o p x) g = (t : Thing) → thing_at g o ≡ Some t → t.extensible ≡ true
 Fits (Perform s m o v enters) g = FitsMethod m
 Fits _ g = Unit {0}
+
+-- a method that may make an entry is performed with the acting side's own view; each row sees to that, too
+abbrev pub SeesItself : Task → Type 0
+SeesItself (Perform s m o v enters) = enters ≡ true → v ≡ s
+SeesItself _ = Unit {0}

@@ -38,7 +38,7 @@ module _ {K V : Type 0} where
   closed-among P entries side object (other ∷ rest) (suc place) entry at is t h =
       closed-among P entries side object rest place entry at is t (All-last P (if is_of side object other then told_by entries other else []) (told_from entries side object rest) h)
 
-  closed-held : (P : Fact K V → Type 0) (entries : List (Entry K V)) (side object began : ℕ) → closed_by side object (take began entries) ≡ true → AllByRecursion P (Told entries side object) → P Closed
+  pub closed-held : (P : Fact K V → Type 0) (entries : List (Entry K V)) (side object began : ℕ) → closed_by side object (take began entries) ≡ true → AllByRecursion P (Told entries side object) → P Closed
   closed-held P entries side object began c h =
       let k = list_any-get (λ entry. is_of side object entry && tells_closed entry.deed) (take began entries) c in
       let g = take-get entries began k.0 k.1 k.2 in

@@ -8,6 +8,7 @@ use Rattle.mb_model.specs.Operations.Calls.{get, call, putv}
 use Rattle.mb_model.specs.BuiltIns.Arguments.{arg, need_callable, undefined}
 use Rattle.mb_model.specs.BuiltIns.Arrays.{array_start, each_turn, place_value}
 use Rattle.mb_model.specs.BuiltIns.ArrayMembers.{push_each, push, pop_deleted, pop_got, pop_from, pop, callback, for_each_found, for_each, for_each_row, reduce_found, reduced, reduce_each, reduce_row, clamped, index_arg, index_found, index_each, index_of_row, join_text, join_add, join_got, separator_at, join_each, separator, join}
+use Rattle.std.proofs.Common.{refl}
 use Rattle.mb_model.proofs.Kept.Words.{Kept, Goes, keeps->>=, keeps-flag, keeps-give, keeps-if, keeps-or_type_error, keeps-pay, keeps-range_error, keeps-type_error, keeps-unless_type_error}
 use Rattle.mb_model.proofs.Kept.BuiltInsArrays.{keeps-array_start, keeps-each_turn}
 use Rattle.mb_model.proofs.Kept.OperationsCalls.{keeps-call, keeps-get, keeps-putv}
@@ -37,7 +38,8 @@ keeps-pop_deleted kept s o n v b = keeps->>= kept (unless_type_error s b) (λ _.
 
 pub keeps-pop_got : (kept : Kept) (x0 : ℕ) (x1 : Val) (x2 : ℕ) (x3 : Val) → Goes kept (pop_got x0 x1 x2 x3)
 keeps-pop_got kept s o n v = keeps->>= kept (flag (perform s (Delete (index_key n)) o)) (λ b. pop_deleted s o n v
-    b) (keeps-flag kept (perform s (Delete (index_key n)) o) (λ _ _. tt)) (λ b. keeps-pop_deleted kept s o n v b)
+    b) (keeps-flag kept (perform s (Delete (index_key n)) o) (λ _. (λ _. tt, λ _ _. refl))) (λ b. keeps-pop_deleted
+    kept s o n v b)
 
 pub keeps-pop_from : (kept : Kept) (x0 : ℕ) (x1 : Val) (x2 : ℕ) → Goes kept (pop_from x0 x1 x2)
 keeps-pop_from kept s o zero = keeps->>= kept (putv s o length_key (place_value 0)) (λ _. undefined) (keeps-putv

@@ -8,6 +8,7 @@ use Rattle.mb_model.specs.Operations.Makings.{array_thing}
 use Rattle.mb_model.specs.Operations.Calls.{get, length_of, is_array}
 use Rattle.mb_model.specs.BuiltIns.Arguments.{need_object, made_prototype}
 use Rattle.mb_model.specs.BuiltIns.Arrays.{array_make, array_filled, array_from, array_fn, is_array_row, array_start, element_found, each_turn}
+use Rattle.std.proofs.Common.{refl}
 use Rattle.mb_model.proofs.Kept.Words.{Kept, Goes, keeps->>=, keeps-flag, keeps-give, keeps-if, keeps-make, keeps-pay, keeps-range_error, keeps-truth}
 use Rattle.mb_model.proofs.Kept.Made.{new-array_thing}
 use Rattle.mb_model.proofs.Kept.OperationsCalls.{keeps-get, keeps-is_array, keeps-length_of}
@@ -52,4 +53,4 @@ pub keeps-each_turn : (kept : Kept) (x0 : ℕ) (x1 : Val) (x2 : ℕ) → Goes ke
 keeps-each_turn kept s o k = keeps->>= kept (pay 1) (λ _. (flag (perform s (HasProperty (index_key k)) o)) >>= (λ
     there. element_found s o k there)) (keeps-pay kept 1) (λ _. keeps->>= kept (flag (perform s (HasProperty
     (index_key k)) o)) (λ there. element_found s o k there) (keeps-flag kept (perform s (HasProperty (index_key k))
-    o) (λ _ _. tt)) (λ there. keeps-element_found kept s o k there))
+    o) (λ _. (λ _. tt, λ _ _. refl))) (λ there. keeps-element_found kept s o k there))

@@ -9,6 +9,7 @@ use Rattle.mb_model.specs.Operations.Makings.{make_plain}
 use Rattle.mb_model.specs.Operations.Conversions.{text_by, text_limit}
 use Rattle.mb_model.specs.BuiltIns.Arguments.{need_callable, undefined}
 use Rattle.mb_model.specs.BuiltIns.Basics.{with_blank, print_each, with_job, later, labelled, described_symbol, symbol_string, value_string, string, symbol_of, symbol_described, symbol}
+use Rattle.std.proofs.Common.{refl}
 use Rattle.mb_model.proofs.Kept.Words.{Kept, Goes, keeps->>=, keeps-give, keeps-if, keeps-log, keeps-look, keeps-make_symbol, keeps-pay, keeps-range_error, keeps-type_error, keeps-with_job}
 use Rattle.mb_model.proofs.Kept.OperationsMakings.{keeps-make_plain}
 use Rattle.mb_model.proofs.Kept.BuiltInsArguments.{keeps-need_callable, keeps-undefined}
@@ -19,7 +20,7 @@ use Rattle.mb_model.proofs.Kept.OperationsConversions.{keeps-text_by}
 pub keeps-print_each : (kept : Kept) (x0 : ℕ) (x1 : List ℕ) (x2 : Bool) (x3 : List Val) → Goes kept (print_each x0
     x1 x2 x3)
 keeps-print_each kept s line first [] = keeps->>= kept (log (Printed s line)) (λ _. undefined) (keeps-log kept
-    (Printed s line)) (λ _. keeps-undefined kept)
+    (Printed s line) refl) (λ _. keeps-undefined kept)
 keeps-print_each kept s line first (v ∷ vs) = keeps->>= kept (text_by s v) (λ t. (pay (length t / 64)) >>= (λ _.
     print_each s (with_blank line first t) false vs)) (keeps-text_by kept s v) (λ t. keeps->>= kept (pay (length t
     / 64)) (λ _. print_each s (with_blank line first t) false vs) (keeps-pay kept (length t / 64)) (λ _.

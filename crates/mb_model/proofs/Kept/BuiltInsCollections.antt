@@ -25,34 +25,39 @@ keeps-need_collection kept s kind c = keeps->>= kept (look (λ g. thing_is (is_c
 pub keeps-value_member : (kept : Kept) (x0 : ℕ) (x1 : ℕ) (x2 : Coll) (x3 : Val) (x4 : Request) → Goes kept
     (value_member x0 x1 x2 x3 x4)
 keeps-value_member kept s p kind c q = keeps->>= kept (need_collection s kind c) (λ _. answer (Access s p c q))
-    (keeps-need_collection kept s kind c) (λ _. keeps-answer kept (Access s p c q) (λ _ _. tt))
+    (keeps-need_collection kept s kind c) (λ _. keeps-answer kept (Access s p c q) (λ _. (λ _. tt, λ _. tt)))
 
 pub keeps-truth_member : (kept : Kept) (x0 : ℕ) (x1 : ℕ) (x2 : Coll) (x3 : Val) (x4 : Request) → Goes kept
     (truth_member x0 x1 x2 x3 x4)
 keeps-truth_member kept s p kind c q = keeps->>= kept (need_collection s kind c) (λ _. (flag (Access s p c q)) >>=
     (λ b. truth b)) (keeps-need_collection kept s kind c) (λ _. keeps->>= kept (flag (Access s p c q)) (λ b. truth
-    b) (keeps-flag kept (Access s p c q) (λ _ _. tt)) (λ b. keeps-truth kept b))
+    b) (keeps-flag kept (Access s p c q) (λ _. (λ _. tt, λ _. tt))) (λ b. keeps-truth kept b))
 
 pub keeps-chained_member : (kept : Kept) (x0 : ℕ) (x1 : ℕ) (x2 : Coll) (x3 : Val) (x4 : Request) → Goes kept
     (chained_member x0 x1 x2 x3 x4)
 keeps-chained_member kept s p kind c q = keeps->>= kept (need_collection s kind c) (λ _. (flag (Access s p c q))
     >>= (λ _. give (Value c))) (keeps-need_collection kept s kind c) (λ _. keeps->>= kept (flag (Access s p c q))
-    (λ _. give (Value c)) (keeps-flag kept (Access s p c q) (λ _ _. tt)) (λ _. keeps-give kept (Value c)))
+    (λ _. give (Value c)) (keeps-flag kept (Access s p c q) (λ _. (λ _. tt, λ _. tt))) (λ _. keeps-give kept (Value
+    c)))
 
 pub keeps-visited : (kept : Kept) (x0 : ℕ) (x1 : ℕ) (x2 : Val) (x3 : Val) (x4 : Val) (x5 : ℕ) (x6 : Option (Option
     (Val × Val))) → Goes kept (visited x0 x1 x2 x3 x4 x5 x6)
 keeps-visited kept s p c f this n None = keeps-undefined kept
-keeps-visited kept s p c f this n (Some None) = keeps-again kept (Visit s p c f this (n + 1)) (λ _ _. tt)
+keeps-visited kept s p c f this n (Some None) = keeps-again kept (Visit s p c f this (n + 1)) (λ _. (
+  λ _. tt,
+  λ _.
+      tt,
+))
 keeps-visited kept s p c f this n (Some (Some x)) = keeps->>= kept (call s f this (x.1 ∷ x.0 ∷ c ∷ [])) (λ _. again
     (Visit s p c f this (n + 1))) (keeps-call kept s f this (x.1 ∷ x.0 ∷ c ∷ [])) (λ _. keeps-again kept (Visit s p
-    c f this (n + 1)) (λ _ _. tt))
+    c f this (n + 1)) (λ _. (λ _. tt, λ _. tt)))
 
 pub keeps-visit_row : (kept : Kept) (x0 : ℕ) (x1 : ℕ) (x2 : Val) (x3 : Val) (x4 : Val) (x5 : ℕ) → Goes kept
     (visit_row x0 x1 x2 x3 x4 x5)
 keeps-visit_row kept s p c f this n = keeps->>= kept (pay 1) (λ _. (answer (Access s p c (Slot n))) >>= (λ a.
     visited s p c f this n (slot_in a))) (keeps-pay kept 1) (λ _. keeps->>= kept (answer (Access s p c (Slot n)))
-    (λ a. visited s p c f this n (slot_in a)) (keeps-answer kept (Access s p c (Slot n)) (λ _ _. tt)) (λ a.
-    keeps-visited kept s p c f this n (slot_in a)))
+    (λ a. visited s p c f this n (slot_in a)) (keeps-answer kept (Access s p c (Slot n)) (λ _. (λ _. tt, λ _. tt)))
+    (λ a. keeps-visited kept s p c f this n (slot_in a)))
 
 pub keeps-for_each_pair : (kept : Kept) (x0 : ℕ) (x1 : ℕ) (x2 : Coll) (x3 : Val) (x4 : List Val) → Goes kept
     (for_each_pair x0 x1 x2 x3 x4)

@@ -45,13 +45,14 @@ keeps-enumerable_keys kept s o out [] = keeps-array_of kept s out
 keeps-enumerable_keys kept s o out (k ∷ ks) = keeps->>= kept (pay 1) (λ _. (property (perform s (GetOwnProperty k)
     o)) >>= (λ p. enumerable_keys s o (with_key k out p) ks)) (keeps-pay kept 1) (λ _. keeps->>= kept (property
     (perform s (GetOwnProperty k) o)) (λ p. enumerable_keys s o (with_key k out p) ks) (keeps-property kept
-    (perform s (GetOwnProperty k) o) (λ _ _. tt)) (λ p. keeps-enumerable_keys kept s o (with_key k out p) ks))
+    (perform s (GetOwnProperty k) o) (λ _. (λ _. tt, λ _ _. refl))) (λ p. keeps-enumerable_keys kept s o (with_key
+    k out p) ks))
 
 pub keeps-object_keys : (kept : Kept) (x0 : ℕ) (x1 : Val) → Goes kept (object_keys x0 x1)
 keeps-object_keys kept s o = keeps->>= kept (need_object s o) (λ _. (keys (perform s OwnPropertyKeys o)) >>= (λ ks.
     enumerable_keys s o [] (texts_only ks))) (keeps-need_object kept s o) (λ _. keeps->>= kept (keys (perform s
     OwnPropertyKeys o)) (λ ks. enumerable_keys s o [] (texts_only ks)) (keeps-keys kept (perform s OwnPropertyKeys
-    o) (λ _ _. tt)) (λ ks. keeps-enumerable_keys kept s o [] (texts_only ks)))
+    o) (λ _. (λ _. tt, λ _ _. refl))) (λ ks. keeps-enumerable_keys kept s o [] (texts_only ks)))
 
 pub keeps-symbols_array : (kept : Kept) (x0 : ℕ) (x1 : List PropertyKey) → Goes kept (symbols_array x0 x1)
 keeps-symbols_array kept s ks = keeps->>= kept (pay_each ks) (λ _. array_of s (map value_of_key (symbols_only ks)))
@@ -60,13 +61,14 @@ keeps-symbols_array kept s ks = keeps->>= kept (pay_each ks) (λ _. array_of s (
 pub keeps-own_symbols : (kept : Kept) (x0 : ℕ) (x1 : Val) → Goes kept (own_symbols x0 x1)
 keeps-own_symbols kept s o = keeps->>= kept (need_object s o) (λ _. (keys (perform s OwnPropertyKeys o)) >>= (λ ks.
     symbols_array s ks)) (keeps-need_object kept s o) (λ _. keeps->>= kept (keys (perform s OwnPropertyKeys o)) (λ
-    ks. symbols_array s ks) (keeps-keys kept (perform s OwnPropertyKeys o) (λ _ _. tt)) (λ ks. keeps-symbols_array
-    kept s ks))
+    ks. symbols_array s ks) (keeps-keys kept (perform s OwnPropertyKeys o) (λ _. (λ _. tt, λ _ _. refl))) (λ ks.
+    keeps-symbols_array kept s ks))
 
 pub keeps-settle_key : (kept : Kept) (x0 : ℕ) (x1 : Val) (x2 : Bool) (x3 : PropertyKey) → Goes kept (settle_key x0
     x1 x2 x3)
 keeps-settle_key kept s o true k = keeps->>= kept (property (perform s (GetOwnProperty k) o)) (λ p. freeze_found s
-    o k p) (keeps-property kept (perform s (GetOwnProperty k) o) (λ _ _. tt)) (λ p. keeps-freeze_found kept s o k p)
+    o k p) (keeps-property kept (perform s (GetOwnProperty k) o) (λ _. (λ _. tt, λ _ _. refl))) (λ p.
+    keeps-freeze_found kept s o k p)
 keeps-settle_key kept s o false k = keeps-must_define kept s o k sealing (λ _. refl)
 
 pub keeps-settle_keys : (kept : Kept) (x0 : ℕ) (x1 : Val) (x2 : Bool) (x3 : List PropertyKey) → Goes kept
@@ -81,12 +83,15 @@ pub keeps-settle_closed : (kept : Kept) (x0 : ℕ) (x1 : Val) (x2 : Bool) (x3 : 
 keeps-settle_closed kept s o frozen closed = keeps->>= kept (unless_type_error s closed) (λ _. (keys (perform s
     OwnPropertyKeys o)) >>= (λ ks. settle_keys s o frozen ks)) (keeps-unless_type_error kept s closed) (λ _.
     keeps->>= kept (keys (perform s OwnPropertyKeys o)) (λ ks. settle_keys s o frozen ks) (keeps-keys kept (perform
-    s OwnPropertyKeys o) (λ _ _. tt)) (λ ks. keeps-settle_keys kept s o frozen ks))
+    s OwnPropertyKeys o) (λ _. (λ _. tt, λ _ _. refl))) (λ ks. keeps-settle_keys kept s o frozen ks))
 
 pub keeps-settle_object : (kept : Kept) (x0 : ℕ) (x1 : Val) (x2 : Bool) → Goes kept (settle_object x0 x1 x2)
 keeps-settle_object kept s o frozen = keeps->>= kept (flag (perform s PreventExtensions o)) (λ closed.
-    settle_closed s o frozen closed) (keeps-flag kept (perform s PreventExtensions o) (λ _ _. tt)) (λ closed.
-    keeps-settle_closed kept s o frozen closed)
+    settle_closed s o frozen closed) (keeps-flag kept (perform s PreventExtensions o) (λ _. (
+      λ _. tt,
+      λ _ _.
+          refl,
+    ))) (λ closed. keeps-settle_closed kept s o frozen closed)
 
 pub keeps-settle : (kept : Kept) (x0 : ℕ) (x1 : Bool) (x2 : Val) → Goes kept (settle x0 x1 x2)
 keeps-settle kept s frozen o = keeps-if kept (is_object o) (settle_object s o frozen) (give (Value o))
@@ -102,16 +107,18 @@ keeps-frozen_keys kept s o [] = keeps-truth kept true
 keeps-frozen_keys kept s o (k ∷ ks) = keeps->>= kept (pay 1) (λ _. (property (perform s (GetOwnProperty k) o)) >>=
     (λ p. frozen_key (frozen_keys s o ks) p)) (keeps-pay kept 1) (λ _. keeps->>= kept (property (perform s
     (GetOwnProperty k) o)) (λ p. frozen_key (frozen_keys s o ks) p) (keeps-property kept (perform s (GetOwnProperty
-    k) o) (λ _ _. tt)) (λ p. keeps-frozen_key kept (frozen_keys s o ks) (keeps-frozen_keys kept s o ks) p))
+    k) o) (λ _. (λ _. tt, λ _ _. refl))) (λ p. keeps-frozen_key kept (frozen_keys s o ks) (keeps-frozen_keys kept s
+    o ks) p))
 
 pub keeps-frozen_open : (kept : Kept) (x0 : ℕ) (x1 : Val) (x2 : Bool) → Goes kept (frozen_open x0 x1 x2)
 keeps-frozen_open kept s o true = keeps-truth kept false
 keeps-frozen_open kept s o false = keeps->>= kept (keys (perform s OwnPropertyKeys o)) (λ ks. frozen_keys s o ks)
-    (keeps-keys kept (perform s OwnPropertyKeys o) (λ _ _. tt)) (λ ks. keeps-frozen_keys kept s o ks)
+    (keeps-keys kept (perform s OwnPropertyKeys o) (λ _. (λ _. tt, λ _ _. refl))) (λ ks. keeps-frozen_keys kept s o
+    ks)
 
 pub keeps-frozen_object : (kept : Kept) (x0 : ℕ) (x1 : Val) → Goes kept (frozen_object x0 x1)
 keeps-frozen_object kept s o = keeps->>= kept (flag (perform s IsExtensible o)) (λ e. frozen_open s o e)
-    (keeps-flag kept (perform s IsExtensible o) (λ _ _. tt)) (λ e. keeps-frozen_open kept s o e)
+    (keeps-flag kept (perform s IsExtensible o) (λ _. (λ _. tt, λ _ _. refl))) (λ e. keeps-frozen_open kept s o e)
 
 pub keeps-is_frozen : (kept : Kept) (x0 : ℕ) (x1 : Val) → Goes kept (is_frozen x0 x1)
 keeps-is_frozen kept s o = keeps-if kept (is_object o) (frozen_object s o) (truth true) (keeps-frozen_object kept s
@@ -119,7 +126,7 @@ keeps-is_frozen kept s o = keeps-if kept (is_object o) (frozen_object s o) (trut
 
 pub keeps-get_prototype_of : (kept : Kept) (x0 : ℕ) (x1 : Val) → Goes kept (get_prototype_of x0 x1)
 keeps-get_prototype_of kept s o = keeps->>= kept (need_object s o) (λ _. answer (perform s GetPrototypeOf o))
-    (keeps-need_object kept s o) (λ _. keeps-answer kept (perform s GetPrototypeOf o) (λ _ _. tt))
+    (keeps-need_object kept s o) (λ _. keeps-answer kept (perform s GetPrototypeOf o) (λ _. (λ _. tt, λ _ _. refl)))
 
 pub keeps-given_back : (kept : Kept) (x0 : ℕ) (x1 : Val) (x2 : Bool) → Goes kept (given_back x0 x1 x2)
 keeps-given_back kept s o b = keeps->>= kept (unless_type_error s b) (λ _. give (Value o)) (keeps-unless_type_error
@@ -128,7 +135,8 @@ keeps-given_back kept s o b = keeps->>= kept (unless_type_error s b) (λ _. give
 pub keeps-object_set_prototype : (kept : Kept) (x0 : ℕ) (x1 : Val) (x2 : Val) → Goes kept (object_set_prototype x0
     x1 x2)
 keeps-object_set_prototype kept s o p = keeps->>= kept (flag (perform s (SetPrototypeOf p) o)) (λ b. given_back s o
-    b) (keeps-flag kept (perform s (SetPrototypeOf p) o) (λ _ _. tt)) (λ b. keeps-given_back kept s o b)
+    b) (keeps-flag kept (perform s (SetPrototypeOf p) o) (λ _. (λ _. tt, λ _ _. refl))) (λ b. keeps-given_back kept
+    s o b)
 
 pub keeps-object_set_prototype_of : (kept : Kept) (x0 : ℕ) (x1 : Val) (x2 : Val) → Goes kept
     (object_set_prototype_of x0 x1 x2)
@@ -149,12 +157,16 @@ keeps-get_own_descriptor kept s vs = keeps->>= kept (need_object s (arg vs 0)) (
     (property (perform s (GetOwnProperty k) (arg vs 0))) >>= (λ p. described s p))) (keeps-need_object kept s (arg
     vs 0)) (λ _. keeps->>= kept (key_arg s vs 1) (λ k. (property (perform s (GetOwnProperty k) (arg vs 0))) >>= (λ
     p. described s p)) (keeps-key_arg kept s vs 1) (λ k. keeps->>= kept (property (perform s (GetOwnProperty k)
-    (arg vs 0))) (λ p. described s p) (keeps-property kept (perform s (GetOwnProperty k) (arg vs 0)) (λ _ _. tt))
-    (λ p. keeps-described kept s p)))
+    (arg vs 0))) (λ p. described s p) (keeps-property kept (perform s (GetOwnProperty k) (arg vs 0)) (λ _. (
+      λ _.
+          tt,
+      λ _ _. refl,
+    ))) (λ p. keeps-described kept s p)))
 
 pub keeps-has_own : (kept : Kept) (x0 : ℕ) (x1 : Val) (x2 : List Val) → Goes kept (has_own x0 x1 x2)
 keeps-has_own kept s o vs = keeps->>= kept (need_object s o) (λ _. (key_arg s vs 0) >>= (λ k. (property (perform s
     (GetOwnProperty k) o)) >>= (λ p. truth (is_some p)))) (keeps-need_object kept s o) (λ _. keeps->>= kept
     (key_arg s vs 0) (λ k. (property (perform s (GetOwnProperty k) o)) >>= (λ p. truth (is_some p))) (keeps-key_arg
     kept s vs 0) (λ k. keeps->>= kept (property (perform s (GetOwnProperty k) o)) (λ p. truth (is_some p))
-    (keeps-property kept (perform s (GetOwnProperty k) o) (λ _ _. tt)) (λ p. keeps-truth kept (is_some p))))
+    (keeps-property kept (perform s (GetOwnProperty k) o) (λ _. (λ _. tt, λ _ _. refl))) (λ p. keeps-truth kept
+    (is_some p))))

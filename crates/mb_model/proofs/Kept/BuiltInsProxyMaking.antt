@@ -1,26 +1,13 @@
-use Rattle.std.specs.Prelude.{ℕ, List, not, ◌&&◌, None}
-use Rattle.mb_world.specs.Value.{Val, Null, is_object, is_undefined}
-use Rattle.mb_world.specs.Graph.{Proxy}
-use Rattle.mb_world.specs.Objects.{is_proxy, shape_of, new_thing}
+use Rattle.std.specs.Prelude.{ℕ, List, not}
+use Rattle.mb_world.specs.Value.{Val, is_undefined}
 use Rattle.mb_model.specs.Task.{Value}
-use Rattle.mb_model.specs.Writing.{◌>>=◌, give, look, make, unless_type_error}
+use Rattle.mb_model.specs.Writing.{◌>>=◌, give, make, unless_type_error}
 use Rattle.mb_model.specs.BuiltIns.Arguments.{arg}
 use Rattle.mb_model.specs.BuiltIns.ProxyMaking.{proxy_create, proxy_fn, revoker_thing, proxy_and_revoker, revocable}
-use Rattle.std.proofs.Common.{refl}
-use Rattle.mb_model.proofs.Kept.Words.{Kept, Goes, keeps->>=, keeps-give, keeps-look, keeps-make, keeps-unless_type_error}
-use Rattle.mb_model.proofs.Kept.Made.{new-new_thing, new-proxy_and_revoker, new-revoker_thing}
+use Rattle.mb_model.proofs.Kept.Words.{Kept, Goes, keeps->>=, keeps-give, keeps-make, keeps-unless_type_error}
+use Rattle.mb_model.proofs.Kept.Made.{new-proxy_and_revoker, new-revoker_thing, keeps-proxy_create}
 
 -- what the parts of these rows keep (written by tools/kept.py)
-
-pub keeps-proxy_create : (kept : Kept) (x0 : ℕ) (x1 : Val) (x2 : Val) → Goes kept (proxy_create x0 x1 x2)
-keeps-proxy_create kept s t h = keeps->>= kept (look (λ g. is_proxy g t)) (λ nested. (unless_type_error s
-    (is_object t && is_object h && not nested)) >>= (λ _. (look (λ g. shape_of g t)) >>= (λ shape. make (new_thing
-    s None (Proxy t h shape) Null)))) (keeps-look kept (λ g. is_proxy g t)) (λ nested. keeps->>= kept
-    (unless_type_error s (is_object t && is_object h && not nested)) (λ _. (look (λ g. shape_of g t)) >>= (λ shape.
-    make (new_thing s None (Proxy t h shape) Null))) (keeps-unless_type_error kept s (is_object t && is_object h &&
-    not nested)) (λ _. keeps->>= kept (look (λ g. shape_of g t)) (λ shape. make (new_thing s None (Proxy t h shape)
-    Null)) (keeps-look kept (λ g. shape_of g t)) (λ shape. keeps-make kept (new_thing s None (Proxy t h shape)
-    Null) (new-new_thing s None (Proxy t h shape) Null refl))))
 
 pub keeps-proxy_fn : (kept : Kept) (x0 : ℕ) (x1 : List Val) (x2 : Val) → Goes kept (proxy_fn x0 x1 x2)
 keeps-proxy_fn kept s vs target = keeps->>= kept (unless_type_error s (not (is_undefined target))) (λ _.

@@ -6,6 +6,7 @@ use Rattle.mb_model.specs.Writing.{◌>>=◌, answer, pay_each, keys, perform, u
 use Rattle.mb_model.specs.Operations.Calls.{list_of}
 use Rattle.mb_model.specs.BuiltIns.Arguments.{arg, arg_or, key_arg, need_object, need_callable, need_constructor, flag_row, array_of}
 use Rattle.mb_model.specs.BuiltIns.ReflectMembers.{apply_listed, reflect_apply, construct_listed, reflect_construct, reflect_delete, reflect_get, reflect_has, reflect_is_extensible, keys_array, reflect_own_keys, reflect_prevent, reflect_set, reflect_set_prototype}
+use Rattle.std.proofs.Common.{refl}
 use Rattle.mb_model.proofs.Kept.Words.{Kept, Goes, keeps->>=, keeps-answer, keeps-keys, keeps-pay_each, keeps-unless_type_error}
 use Rattle.mb_model.proofs.Kept.BuiltInsArguments.{keeps-array_of, keeps-key_arg, keeps-need_callable, keeps-need_constructor, keeps-need_object}
 use Rattle.mb_model.proofs.Kept.Defined.{keeps-flag_row}
@@ -15,7 +16,7 @@ use Rattle.mb_model.proofs.Kept.OperationsCalls.{keeps-list_of}
 
 pub keeps-apply_listed : (kept : Kept) (x0 : ℕ) (x1 : Val) (x2 : Val) (x3 : List Val) → Goes kept (apply_listed x0
     x1 x2 x3)
-keeps-apply_listed kept s f this vs = keeps-answer kept (perform s (Call this vs) f) (λ _ _. tt)
+keeps-apply_listed kept s f this vs = keeps-answer kept (perform s (Call this vs) f) (λ _. (λ _. tt, λ _ _. refl))
 
 pub keeps-reflect_apply : (kept : Kept) (x0 : ℕ) (x1 : List Val) → Goes kept (reflect_apply x0 x1)
 keeps-reflect_apply kept s vs = keeps->>= kept (need_callable s (arg vs 0)) (λ _. (list_of s false (arg vs 2)) >>=
@@ -25,7 +26,11 @@ keeps-reflect_apply kept s vs = keeps->>= kept (need_callable s (arg vs 0)) (λ 
 
 pub keeps-construct_listed : (kept : Kept) (x0 : ℕ) (x1 : Val) (x2 : Val) (x3 : List Val) → Goes kept
     (construct_listed x0 x1 x2 x3)
-keeps-construct_listed kept s f target vs = keeps-answer kept (perform s (Construct vs target) f) (λ _ _. tt)
+keeps-construct_listed kept s f target vs = keeps-answer kept (perform s (Construct vs target) f) (λ _. (
+  λ _. tt,
+  λ
+      _ _. refl,
+))
 
 pub keeps-reflect_construct : (kept : Kept) (x0 : ℕ) (x1 : List Val) → Goes kept (reflect_construct x0 x1)
 keeps-reflect_construct kept s vs = keeps->>= kept (need_constructor s (arg vs 0)) (λ _. (need_constructor s
@@ -47,7 +52,11 @@ pub keeps-reflect_get : (kept : Kept) (x0 : ℕ) (x1 : List Val) → Goes kept (
 keeps-reflect_get kept s vs = keeps->>= kept (need_object s (arg vs 0)) (λ _. (key_arg s vs 1) >>= (λ k. answer
     (perform s (Get k (arg_or vs 2 (arg vs 0))) (arg vs 0)))) (keeps-need_object kept s (arg vs 0)) (λ _. keeps->>=
     kept (key_arg s vs 1) (λ k. answer (perform s (Get k (arg_or vs 2 (arg vs 0))) (arg vs 0))) (keeps-key_arg kept
-    s vs 1) (λ k. keeps-answer kept (perform s (Get k (arg_or vs 2 (arg vs 0))) (arg vs 0)) (λ _ _. tt)))
+    s vs 1) (λ k. keeps-answer kept (perform s (Get k (arg_or vs 2 (arg vs 0))) (arg vs 0)) (λ _. (
+      λ _. tt,
+      λ _ _.
+          refl,
+    ))))
 
 pub keeps-reflect_has : (kept : Kept) (x0 : ℕ) (x1 : List Val) → Goes kept (reflect_has x0 x1)
 keeps-reflect_has kept s vs = keeps->>= kept (need_object s (arg vs 0)) (λ _. (key_arg s vs 1) >>= (λ k. flag_row s
@@ -66,8 +75,8 @@ keeps-keys_array kept s ks = keeps->>= kept (pay_each ks) (λ _. array_of s (map
 pub keeps-reflect_own_keys : (kept : Kept) (x0 : ℕ) (x1 : Val) → Goes kept (reflect_own_keys x0 x1)
 keeps-reflect_own_keys kept s o = keeps->>= kept (need_object s o) (λ _. (keys (perform s OwnPropertyKeys o)) >>=
     (λ ks. keys_array s ks)) (keeps-need_object kept s o) (λ _. keeps->>= kept (keys (perform s OwnPropertyKeys o))
-    (λ ks. keys_array s ks) (keeps-keys kept (perform s OwnPropertyKeys o) (λ _ _. tt)) (λ ks. keeps-keys_array
-    kept s ks))
+    (λ ks. keys_array s ks) (keeps-keys kept (perform s OwnPropertyKeys o) (λ _. (λ _. tt, λ _ _. refl))) (λ ks.
+    keeps-keys_array kept s ks))
 
 pub keeps-reflect_prevent : (kept : Kept) (x0 : ℕ) (x1 : Val) → Goes kept (reflect_prevent x0 x1)
 keeps-reflect_prevent kept s o = keeps->>= kept (need_object s o) (λ _. flag_row s PreventExtensions o)

@@ -6,14 +6,16 @@ use Rattle.mb_desc.specs.Descriptors.{is_configurable, IsOfOneKind, denies, is_w
 use Rattle.mb_world.specs.Value.{Val, Undefined, Null, Truth, Whole, Text, Symbol, Object, BuiltIn, whole_of}
 use Rattle.mb_world.specs.Key.{PropertyKey, same_key, index_of_key}
 use Rattle.mb_world.specs.Property.{open_property}
-use Rattle.mb_world.specs.Graph.{Graph, Thing, Kind, Array, Property}
-use Rattle.mb_world.specs.Objects.{thing_at, thing_is, is_proxy_kind, with_thing, put_property, without_property}
+use Rattle.mb_world.specs.declared.cell.Shape.{Shape}
+use Rattle.mb_world.specs.Graph.{Graph, Thing, Kind, Array, Proxy, Property}
+use Rattle.mb_world.specs.Objects.{thing_at, thing_is, is_proxy_kind, with_thing, new_thing, put_property, without_property}
 use Rattle.mb_world.specs.Ordinary.{Defined, Refused, Becomes, Faulty, validated, defined_as, ordinary_defined, closed, with_prototype, Without, deleted}
 use Rattle.mb_world.specs.Ordinary as ordinary
 use Rattle.mb_world.specs.Arrays.{index_key, length_key, array_length, element_as, element_defined, length_as, without_writable, length_below, as_length, length_within, length_given, length_defined, name_defined, array_defined_at, defined_by_kind, defined, element_stored}
 use Rattle.mb_world.specs.View.{shown_property, Remove, Free, Admits}
 use Rattle.mb_model.specs.Operations.Calls.{target_is_array}
 use Rattle.mb_model.specs.Operations.Makings.{array_thing}
+use Rattle.mb_model.specs.BuiltIns.ProxyMaking.{may_be_target}
 
 -- the changes that rows make of objects
 
@@ -25,10 +27,27 @@ put_each (p ∷ ps) = put_property p.key p.full (put_each ps)
 abbrev pub Puts : List Property → Type 0
 Puts ps = (qs : List Property) × (put_each qs ≡ ps)
 
--- an object as a row makes it
+-- a Proxy that has a target
+abbrev pub has_target : Kind → Bool
+has_target (Proxy target handler shape) = true
+has_target _ = false
+
+-- neither an array nor a Proxy that has a target
+abbrev pub is_other : Kind → Bool
+is_other Array = false
+is_other (Proxy target handler shape) = false
+is_other _ = true
+
+-- an object as a row makes it, wherever it does
 pub data IsNew (t : Thing) : Type 0 where
   NewArray : (s : ℕ) (p : Val) (n : ℕ) (vs : List Val) → array_thing s p n vs ≡ t → IsNew t
-  NewOther : target_is_array t.kind ≡ false → Puts t.properties → IsNew t
+  NewOther : is_other t.kind ≡ true → Puts t.properties → IsNew t
+
+-- an object as a row makes it in this graph
+pub data IsMade (g : Graph) (t : Thing) : Type 0 where
+  Apart : IsNew t → IsMade g t
+  ProxyOf : (s : ℕ) (target handler : Val) (shape : Shape) → may_be_target g target ≡ true
+      → new_thing s None (Proxy target handler shape) Null ≡ t → IsMade g t
 
 -- what becomes of an object: a part of an internal method does it, or its slots change. What only fitting tasks see to
 -- is told to those who care
@@ -44,7 +63,7 @@ pub data Change (cares : Type 0) (g : Graph) (t u : Thing) : Type 0 where
   NewPrototype : (p : Val) → (cares → t.extensible ≡ true) → with_prototype p t ≡ u → Change cares g t u
   Closing : closed t ≡ u → Change cares g t u
   Recast : (k : Kind) → target_is_array t.kind ≡ target_is_array k → is_proxy_kind t.kind ≡ is_proxy_kind k
-      → record t { kind = k } ≡ u → Change cares g t u
+      → has_target k ≡ false → record t { kind = k } ≡ u → Change cares g t u
 
 -- ---- an array stays one
 
@@ -130,7 +149,33 @@ array-stays cares g t u (Storing n v b a e) =
 array-stays cares g t u (Deletion v k free e) = ap target_is_array (without-kind t u k (shown_property g v t k) e)
 array-stays cares g t u (NewPrototype p open_ e) = ap (λ x. target_is_array x.kind) e
 array-stays cares g t u (Closing e) = ap (λ x. target_is_array x.kind) e
-array-stays cares g t u (Recast k same proxy e) = same ∙ ap (λ x. target_is_array x.kind) e
+array-stays cares g t u (Recast k same proxy none e) = same ∙ ap (λ x. target_is_array x.kind) e
+
+-- ---- a script-made Proxy stays one, and gets no target
+
+abbrev pub ProxyStays : Thing → Thing → Type 0
+ProxyStays t u = (is_proxy_kind t.kind ≡ is_proxy_kind u.kind) × (has_target u.kind ≡ true → t.kind ≡ u.kind)
+
+kind-stays : (t u : Thing) → t.kind ≡ u.kind → ProxyStays t u
+kind-stays t u e = (ap is_proxy_kind e, λ h. e)
+
+pub proxy-stays : (cares : Type 0) (g : Graph) (t u : Thing) → Change cares g t u → ProxyStays t u
+proxy-stays cares g t u (Definition k d b one e) =
+    kind-stays t u (kind-becomes t.kind (defined t k d) u b (kind-by t.kind t k d) e)
+proxy-stays cares g t u (PlainDefinition k d b one e) =
+    kind-stays t u (kind-becomes t.kind (ordinary_defined t k d) u b (kind-ordinary t k d) e)
+proxy-stays cares g t u (Storing n v b a e) =
+    kind-stays t u
+    (kind-becomes t.kind (element_stored t n v) u b
+    (kind-element t (index_key n) (descriptor_of (open_property v)) n (array_length t)) e)
+proxy-stays cares g t u (Deletion v k free e) = kind-stays t u (without-kind t u k (shown_property g v t k) e)
+proxy-stays cares g t u (NewPrototype p open_ e) = kind-stays t u (ap (λ x. x.kind) e)
+proxy-stays cares g t u (Closing e) = kind-stays t u (ap (λ x. x.kind) e)
+proxy-stays cares g t u (Recast k same proxy none e) =
+    let kind : k ≡ u.kind = ap (λ x. x.kind) e in (
+      proxy ∙ ap is_proxy_kind kind,
+      λ h. absurd (let bad : false ≡ true = sym none ∙ ap has_target kind ∙ h in cc),
+    )
 
 -- ---- the arrays of a graph
 

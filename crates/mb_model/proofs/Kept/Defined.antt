@@ -20,7 +20,7 @@ use Rattle.mb_model.specs.Nodes.Literals.{define_on, prop_defined}
 use Rattle.mb_model.specs.BuiltIns.Arguments.{flag_row, undefined}
 use Rattle.mb_model.specs.BuiltIns.ObjectMembers.{freezing, must_define, freeze_found}
 use Rattle.mb_model.specs.BuiltIns.ProxyMaking.{gone_kind, revoke_proxy}
-use Rattle.mb_model.proofs.Kept.Changes.{Change, PlainDefinition, Storing, Recast, is_array_at}
+use Rattle.mb_model.proofs.Kept.Changes.{Change, PlainDefinition, Storing, Recast, has_target, is_array_at}
 use Rattle.mb_model.proofs.Kept.Words.{Kept, At, Goes, at-then, at-alter, keeps->>=, keeps-give, keeps-yes_or_no, keeps-fail, keeps-flag, keeps-unless_type_error, keeps-truth}
 
 -- what a definition makes of an object
@@ -65,7 +65,7 @@ pub keeps-must_define : (kept : Kept) (s : ℕ) (o : Val) (k : PropertyKey) (d :
     (kept.cares → IsOfOneKind d) → Goes kept (must_define s o k d)
 keeps-must_define kept s o k d one =
     keeps->>= kept (flag (perform s (DefineOwnProperty k d) o)) (λ b. unless_type_error s b)
-    (keeps-flag kept (perform s (DefineOwnProperty k d) o) (λ _. one)) (λ b. keeps-unless_type_error kept s b)
+    (keeps-flag kept (perform s (DefineOwnProperty k d) o) (λ _. (one, λ _ _. refl))) (λ b. keeps-unless_type_error kept s b)
 
 one-freezing : (p : Full Val) → IsOfOneKind (freezing p)
 one-freezing (Datum v w e c) = refl
@@ -79,7 +79,7 @@ keeps-freeze_found kept s o k (Some p) = keeps-must_define kept s o k (freezing 
 pub keeps-flag_row : (kept : Kept) (s : ℕ) (m : Method) (o : Val) → (kept.cares → FitsMethod m) →
     Goes kept (flag_row s m o)
 keeps-flag_row kept s m o fit =
-    keeps->>= kept (flag (perform s m o)) (λ b. truth b) (keeps-flag kept (perform s m o) (λ _. fit))
+    keeps->>= kept (flag (perform s m o)) (λ b. truth b) (keeps-flag kept (perform s m o) (λ _. (fit, λ _ _. refl)))
     (λ b. keeps-truth kept b)
 
 -- a Proxy that goes was no array
@@ -105,12 +105,23 @@ same-proxy (Gone s) = refl
 same-proxy (Revoker p) = refl
 same-proxy (Collection c s) = refl
 
+no-target : (k : Kind) → has_target (gone_kind k) ≡ false
+no-target Plain = refl
+no-target Array = refl
+no-target (Function c) = refl
+no-target (Standard p) = refl
+no-target (Fault e) = refl
+no-target (Proxy t h s) = refl
+no-target (Gone s) = refl
+no-target (Revoker p) = refl
+no-target (Collection c s) = refl
+
 pub keeps-revoke_proxy : (kept : Kept) (p : ℕ) → Goes kept (revoke_proxy p)
 keeps-revoke_proxy kept p =
     let f : Thing → Thing = λ t. record t { kind = gone_kind t.kind } in
     record {
       goes = λ g.
           at-then kept g (alter (Val.Object p) f) (λ _. undefined)
-          (at-alter kept g (Val.Object p) f (λ t at. Recast (gone_kind t.kind) (same-gone t.kind) (same-proxy t.kind) refl))
+          (at-alter kept g (Val.Object p) f (λ t at. Recast (gone_kind t.kind) (same-gone t.kind) (same-proxy t.kind) (no-target t.kind) refl))
           (λ _ g' q. (keeps-give kept (Answer.Value Val.Undefined)).goes g');
     }

@@ -1,4 +1,4 @@
-use Rattle.std.proofs.Common.{ℕ, List}
+use Rattle.std.proofs.Common.{ℕ, List, refl}
 use Rattle.mb_desc.specs.declared.descriptor.Desc.{Desc}
 use Rattle.mb_desc.specs.Descriptors.{IsOfOneKind}
 use Rattle.mb_world.specs.Value.{Val}
@@ -36,7 +36,7 @@ keeps-object_define : (kept : Kept) (s : ℕ) (o : Val) (k : PropertyKey) (d : D
     (kept.cares → IsOfOneKind d) → Goes kept (object_define s o k d)
 keeps-object_define kept s o k d one =
     keeps->>= kept (flag (perform s (DefineOwnProperty k d) o)) (λ b. given_back s o b)
-    (keeps-flag kept (perform s (DefineOwnProperty k d) o) (λ _. one)) (λ b. keeps-given_back kept s o b)
+    (keeps-flag kept (perform s (DefineOwnProperty k d) o) (λ _. (one, λ _ _. refl))) (λ b. keeps-given_back kept s o b)
 
 pub keeps-object_define_property : (kept : Kept) (s : ℕ) (vs : List Val) → Goes kept (object_define_property s vs)
 keeps-object_define_property kept s vs =

@@ -28,7 +28,7 @@ gets-todesc_from kept g s x [] d =
 gets-todesc_from kept g s x (f ∷ fs) d =
     gets-after kept OneKind g (flag (perform s (HasProperty (field_key f)) x))
     (λ there. field_found s x d f there >>= (λ e. todesc_from s x fs e))
-    ((keeps-flag kept (perform s (HasProperty (field_key f)) x) (λ _ _. tt)).goes g)
+    ((keeps-flag kept (perform s (HasProperty (field_key f)) x) (λ _. (λ _. tt, λ _ _. refl))).goes g)
     (λ there g' q.
     gets-after kept OneKind g' (field_found s x d f there) (λ e. todesc_from s x fs e)
     ((keeps-field_found kept s x d f there).goes g') (λ e g'' q'. gets-todesc_from kept g'' s x fs e))

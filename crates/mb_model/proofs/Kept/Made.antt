@@ -1,29 +1,28 @@
-use Rattle.std.proofs.Common.{◌≡◌, ℕ, suc, List, [], ◌∷◌, ◌++◌, length, Bool, true, false, Option, Some, None, slice_get, slice_set, refl, sym, ap, ◌∙◌, subst}
+use Rattle.std.proofs.Common.{◌≡◌, ℕ, suc, List, [], ◌∷◌, ◌++◌, length, Bool, true, false, ◌&&◌, Option, Some, None, slice_get, slice_set, refl, sym, ap, ◌∙◌, subst}
 use Rattle.std.specs.Prelude.{codes, pos}
 use Rattle.mb_desc.specs.declared.descriptor.Desc.{Desc}
 use Rattle.mb_desc.specs.declared.descriptor.Full.{Full}
 use Rattle.mb_desc.specs.declared.descriptor.Full.TheVariants.{Datum}
-use Rattle.mb_world.specs.Value.{Val, Object, Text, Whole}
+use Rattle.mb_world.specs.Value.{Val, Null, Object, Text, Whole, is_object}
 use Rattle.mb_world.specs.Key.{PropertyKey, Named}
 use Rattle.mb_world.specs.Property.{open_property}
-use Rattle.mb_world.specs.Graph.{Graph, Thing, Code, Kind, Plain, Property}
+use Rattle.mb_world.specs.Graph.{Graph, Thing, Code, Kind, Plain, Proxy, Property}
 use Rattle.mb_world.specs.Standard.{object_prototype}
-use Rattle.mb_world.specs.Objects.{thing_at, new_thing, put_property, with_property}
+use Rattle.mb_world.specs.Objects.{thing_at, new_thing, shape_of, put_property, with_property}
 use Rattle.mb_world.specs.Arrays.{length_key}
-use Rattle.mb_model.specs.Writing.{Does, ◌>>=◌, give, make, with_object}
-use Rattle.mb_model.specs.Operations.Calls.{target_is_array}
+use Rattle.mb_model.specs.Writing.{Does, ◌>>=◌, give, look, make, with_object, unless_type_error}
 use Rattle.mb_model.specs.Operations.Makings.{array_thing, function_thing, altered, make_constructor, make_function}
 use Rattle.mb_model.specs.Operations.Descriptors.{put_field, truth_if, desc_properties, fromdesc}
-use Rattle.mb_model.specs.BuiltIns.ProxyMaking.{revoker_thing, proxy_and_revoker}
-use Rattle.mb_model.proofs.Kept.Changes.{Puts, IsNew, NewArray, NewOther}
-use Rattle.mb_model.proofs.Kept.Words.{Kept, Along, Goes, along-stays, along-made, keeps->>=, keeps-give, keeps-make}
+use Rattle.mb_model.specs.BuiltIns.ProxyMaking.{may_be_target, proxy_create, revoker_thing, proxy_and_revoker}
+use Rattle.mb_model.proofs.Kept.Changes.{Puts, is_other, IsNew, NewArray, NewOther, Apart, ProxyOf}
+use Rattle.mb_model.proofs.Kept.Words.{Kept, Along, At, Goes, along-stays, along-made, at-unless, keeps->>=, keeps-give, keeps-make, keeps-type_error}
 
 -- objects as rows make them
 
 puts-put : (k : PropertyKey) (f : Full Val) (ps : List Property) → Puts ps → Puts (put_property k f ps)
 puts-put k f ps h = (record { key = k; full = f } ∷ h.0, ap (put_property k f) h.1)
 
-pub new-new_thing : (s : ℕ) (label : Option (List ℕ)) (kind : Kind) (p : Val) → target_is_array kind ≡ false →
+pub new-new_thing : (s : ℕ) (label : Option (List ℕ)) (kind : Kind) (p : Val) → is_other kind ≡ true →
     IsNew (new_thing s label kind p)
 new-new_thing s label kind p other = NewOther other ([], refl)
 
@@ -160,8 +159,8 @@ constructor-along kept g s label c n name p =
     let f : Val = Object (length g.objects) in
     let o : Val = Object (length (g.objects ++ (t ∷ []))) in
     subst (Along kept g) (sym (paired-is g t u))
-    (along-made kept g (with_object (prototype_of o t) g) (constructor_of f u) (new-prototype s f)
-    (along-made kept g g (prototype_of o t) (new-constructor s label c n name o) p))
+    (along-made kept g (with_object (prototype_of o t) g) (constructor_of f u) (Apart (new-prototype s f))
+    (along-made kept g g (prototype_of o t) (Apart (new-constructor s label c n name o)) p))
 
 constructor-made : (kept : Kept) (s : ℕ) (label : Option (List ℕ)) (c : Code) (n : ℕ) (name : List ℕ) (b : Bool) →
     Goes kept (make (function_thing s label c n name) >>= (λ f. make_constructor s b f))
@@ -176,3 +175,22 @@ constructor-made kept s label c n name true =
 pub keeps-make_function : (kept : Kept) (c : Code) (label : Option (List ℕ)) (n : ℕ) (name : List ℕ) →
     Goes kept (make_function c label n name)
 keeps-make_function kept c label n name = constructor-made kept c.side label c n name c.constructs
+
+-- ---- a Proxy, of what may be its target
+
+abbrev proxy_made : ℕ → Val → Val → Does Val
+proxy_made s t h = look (λ g. shape_of g t) >>= (λ shape. make (new_thing s None (Proxy t h shape) Null))
+
+at-made : (kept : Kept) (g : Graph) (s : ℕ) (t h : Val) → may_be_target g t ≡ true → At kept g (proxy_made s t h)
+at-made kept g s t h able k b p more =
+    let made : Thing = new_thing s None (Proxy t h (shape_of g t)) Null in
+    more (Object (length g.objects)) (with_object made g)
+    (along-made kept g g made (ProxyOf s t h (shape_of g t) able refl) (along-stays kept b g p))
+
+at-able : (kept : Kept) (g : Graph) (s : ℕ) (t h : Val) (able : Bool) → may_be_target g t ≡ able →
+    At kept g (unless_type_error s (able && is_object h) >>= (λ _. proxy_made s t h))
+at-able kept g s t h true e = at-unless kept g s (is_object h) (proxy_made s t h) (at-made kept g s t h e)
+at-able kept g s t h false e = λ k b p more. (keeps-type_error {A = Val} kept s).goes g k b p more
+
+pub keeps-proxy_create : (kept : Kept) (s : ℕ) (t h : Val) → Goes kept (proxy_create s t h)
+keeps-proxy_create kept s t h = record { goes = λ g k b p more. at-able kept g s t h (may_be_target g t) refl k b p more }

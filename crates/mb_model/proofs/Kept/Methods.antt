@@ -45,7 +45,7 @@ at-walk_from kept g o p x t last fit =
     at-if kept g (same_value x o) (yes_or_no false) (if last then prototype_set o p else again (Walk o p t.prototype))
     ((keeps-yes_or_no kept false).goes g)
     (at-if kept g last (prototype_set o p) (again (Walk o p t.prototype)) (at-prototype_set kept g o p x fit)
-    (at-again kept g (Walk o p t.prototype) fit))
+    (at-again kept g (Walk o p t.prototype) (fit, λ _. tt)))
 
 at-walk_at : (kept : Kept) (g : Graph) (o p x : Val) (there : Option Thing) → (kept.cares → Fits (Walk o p x) g) →
     At kept g (walk_at o p x there)
@@ -123,7 +123,8 @@ keeps-trap_got : (kept : Kept) (s p : ℕ) (t h : Val) (m : Method) (trap : Val)
     Goes kept (trap_got s p t h m trap)
 keeps-trap_got kept s p t h m trap fit =
     keeps-if kept (is_nullish trap) (answer (Perform s m t p false)) (trap_callable p t h trap m)
-    (keeps-answer kept (Perform s m t p false) (λ _. fit)) (keeps-trap_callable kept p t h trap m)
+    (keeps-answer kept (Perform s m t p false) (λ _. (fit, λ _ e. absurd (let bad : false ≡ true = e in cc))))
+    (keeps-trap_callable kept p t h trap m)
 
 keeps-proxy_method : (kept : Kept) (s p : ℕ) (t h : Val) (m : Method) → (kept.cares → FitsMethod m) →
     Goes kept (proxy_method s p t h m)

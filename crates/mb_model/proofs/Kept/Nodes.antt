@@ -43,11 +43,11 @@ keeps-node kept c n (ExprStmtForm e) = keeps->>= kept (eval c e) (λ v. expr_don
 keeps-node kept c n (IfForm test main other) = keeps->>= kept (eval c test) (λ x. branch c main other (to_boolean
     x)) (keeps-eval kept c test) (λ x. keeps-branch kept c main other (to_boolean x))
 keeps-node kept c n (WhileForm test body) = keeps->>= kept (eval c test) (λ x. while_tested c (task c n) body
-    (to_boolean x)) (keeps-eval kept c test) (λ x. keeps-while_tested kept c (task c n) (λ _ _. tt) body
-    (to_boolean x))
+    (to_boolean x)) (keeps-eval kept c test) (λ x. keeps-while_tested kept c (task c n) (λ _. (λ _. tt, λ _. tt))
+    body (to_boolean x))
 keeps-node kept c n (DoWhileForm body test) = keeps->>= kept (outcome (task c body)) (λ o. body_ended (do_test c
-    (task c n) test) o) (keeps-outcome kept (task c body) (λ _ _. tt)) (λ o. keeps-body_ended kept (do_test c (task
-    c n) test) (keeps-do_test kept c (task c n) (λ _ _. tt) test) o)
+    (task c n) test) o) (keeps-outcome kept (task c body) (λ _. (λ _. tt, λ _. tt))) (λ o. keeps-body_ended kept
+    (do_test c (task c n) test) (keeps-do_test kept c (task c n) (λ _. (λ _. tt, λ _. tt)) test) o)
 keeps-node kept c n (ForForm first test last body) = keeps-for_row kept c n first test last body
 keeps-node kept c n (ReturnForm e) = keeps-return_row kept c e
 keeps-node kept c n (ThrowForm e) = keeps->>= kept (eval c e) (λ v. throw v) (keeps-eval kept c e) (λ v.
@@ -55,7 +55,7 @@ keeps-node kept c n (ThrowForm e) = keeps->>= kept (eval c e) (λ v. throw v) (k
 keeps-node kept c n BreakForm = keeps-ends kept Break tt
 keeps-node kept c n ContinueForm = keeps-ends kept Continue tt
 keeps-node kept c n (TryForm block x h ending) = keeps->>= kept (outcome (task c block)) (λ o. tried c n x h ending
-    o) (keeps-outcome kept (task c block) (λ _ _. tt)) (λ o. keeps-tried kept c n x h ending o)
+    o) (keeps-outcome kept (task c block) (λ _. (λ _. tt, λ _. tt))) (λ o. keeps-tried kept c n x h ending o)
 keeps-node kept c n (ParamForm x) = keeps-give kept Nothing
 keeps-node kept c n ThisForm = keeps-is_value kept c.this
 keeps-node kept c n (NameForm x) = keeps->>= kept (read_name c.side c.scope x) (λ v. is_value v) (keeps-read_name
@@ -74,7 +74,7 @@ keeps-node kept c n (FunctionForm x parts) = keeps-function_row kept c n parts x
 keeps-node kept c n (ArrowForm parts block) = keeps->>= kept (make_function (code c.side n c.scope false (Some
     c.this)) None (length parts.params) []) (λ f. is_value f) (keeps-make_function kept (code c.side n c.scope
     false (Some c.this)) None (length parts.params) []) (λ f. keeps-is_value kept f)
-keeps-node kept c n (GroupForm e) = keeps-answer kept (task c e) (λ _ _. tt)
+keeps-node kept c n (GroupForm e) = keeps-answer kept (task c e) (λ _. (λ _. tt, λ _. tt))
 keeps-node kept c n (MemberForm b x) = keeps->>= kept (reference c (Some (MemberForm b x))) (λ r. get_reference c
     r) (keeps-reference kept c (Some (MemberForm b x))) (λ r. keeps-get_reference kept c r)
 keeps-node kept c n (IndexForm b k) = keeps->>= kept (reference c (Some (IndexForm b k))) (λ r. get_reference c r)

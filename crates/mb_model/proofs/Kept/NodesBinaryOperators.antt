@@ -10,6 +10,7 @@ use Rattle.mb_model.specs.Operations.Conversions.{to_key, text_by, join_texts, w
 use Rattle.mb_model.specs.Operations.Calls.{get}
 use Rattle.mb_model.specs.Nodes.Evaluation.{Context, eval}
 use Rattle.mb_model.specs.Nodes.BinaryOperators.{whole_result, joined, sum, is_zero, divided, remainder, wholes, units_below, compared, has_row, chain_got, chain_row, instance_prototype, instance_object, instance_of, instance_row, operate, right_got, left_got}
+use Rattle.std.proofs.Common.{refl}
 use Rattle.mb_model.proofs.Kept.Words.{Kept, Goes, keeps->>=, keeps-again, keeps-flag, keeps-if, keeps-is_value, keeps-look, keeps-range_error, keeps-truth, keeps-type_error, keeps-value}
 use Rattle.mb_model.proofs.Kept.NodesEvaluation.{keeps-eval}
 use Rattle.mb_model.proofs.Kept.OperationsCalls.{keeps-get}
@@ -57,16 +58,16 @@ keeps-compared kept s f g _ _ = keeps-type_error kept s
 pub keeps-has_row : (kept : Kept) (x0 : ℕ) (x1 : Val) (x2 : Val) → Goes kept (has_row x0 x1 x2)
 keeps-has_row kept s a o = keeps->>= kept (to_key s a) (λ k. (flag (perform s (HasProperty k) o)) >>= (λ b. truth
     b)) (keeps-to_key kept s a) (λ k. keeps->>= kept (flag (perform s (HasProperty k) o)) (λ b. truth b)
-    (keeps-flag kept (perform s (HasProperty k) o) (λ _ _. tt)) (λ b. keeps-truth kept b))
+    (keeps-flag kept (perform s (HasProperty k) o) (λ _. (λ _. tt, λ _ _. refl))) (λ b. keeps-truth kept b))
 
 pub keeps-chain_got : (kept : Kept) (x0 : ℕ) (x1 : Val) (x2 : Val) → Goes kept (chain_got x0 x1 x2)
 keeps-chain_got kept s p x = keeps-if kept (same_value x p) (truth true) (if is_null x then truth false else again
     (Chain s x p)) (keeps-truth kept true) (keeps-if kept (is_null x) (truth false) (again (Chain s x p))
-    (keeps-truth kept false) (keeps-again kept (Chain s x p) (λ _ _. tt)))
+    (keeps-truth kept false) (keeps-again kept (Chain s x p) (λ _. (λ _. tt, λ _. tt))))
 
 pub keeps-chain_row : (kept : Kept) (x0 : ℕ) (x1 : Val) (x2 : Val) → Goes kept (chain_row x0 x1 x2)
 keeps-chain_row kept s x p = keeps->>= kept (value (perform s GetPrototypeOf x)) (λ y. chain_got s p y)
-    (keeps-value kept (perform s GetPrototypeOf x) (λ _ _. tt)) (λ y. keeps-chain_got kept s p y)
+    (keeps-value kept (perform s GetPrototypeOf x) (λ _. (λ _. tt, λ _ _. refl))) (λ y. keeps-chain_got kept s p y)
 
 pub keeps-instance_prototype : (kept : Kept) (x0 : ℕ) (x1 : Val) (x2 : Val) → Goes kept (instance_prototype x0 x1 x2)
 keeps-instance_prototype kept s a p = keeps-if kept (is_object p) (chain_row s a p) (type_error s) (keeps-chain_row

@@ -33,7 +33,7 @@ keeps-body_next kept more keeps-more Continue = keeps-ends kept Continue tt
 pub keeps-body : (kept : Kept) (x0 : Context) (x1 : List ℕ) → Goes kept (body x0 x1)
 keeps-body kept c [] = keeps-is_value kept Undefined
 keeps-body kept c (n ∷ ns) = keeps->>= kept (outcome (task c n)) (λ o. body_next (body c ns) o) (keeps-outcome kept
-    (task c n) (λ _ _. tt)) (λ o. keeps-body_next kept (body c ns) (keeps-body kept c ns) o)
+    (task c n) (λ _. (λ _. tt, λ _. tt))) (λ o. keeps-body_next kept (body c ns) (keeps-body kept c ns) o)
 
 pub keeps-body_or_value : (kept : Kept) (x0 : Context) (x1 : Bool) (x2 : List ℕ) → Goes kept (body_or_value x0 x1 x2)
 keeps-body_or_value kept c true ns = keeps-body kept c ns

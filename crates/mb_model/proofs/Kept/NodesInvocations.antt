@@ -8,6 +8,7 @@ use Rattle.mb_model.specs.Operations.Calls.{getv}
 use Rattle.mb_model.specs.Nodes.Evaluation.{Context, task, eval}
 use Rattle.mb_model.specs.Nodes.References.{Reference, ToName, ToPlace, refer}
 use Rattle.mb_model.specs.Nodes.Invocations.{call_if, call_all, new_if, new_all, arguments, callee_got, call_reference, call_place, call_row, constructor_got, or_got, and_got, sequence}
+use Rattle.std.proofs.Common.{refl}
 use Rattle.mb_model.proofs.Kept.Words.{Kept, Goes, keeps->>=, keeps-answer, keeps-give, keeps-if, keeps-is_value, keeps-look, keeps-type_error}
 use Rattle.mb_model.proofs.Kept.NodesEvaluation.{keeps-eval}
 use Rattle.mb_model.proofs.Kept.OperationsCalls.{keeps-getv}
@@ -18,7 +19,7 @@ use Rattle.mb_model.proofs.Kept.NodesReferences.{keeps-refer}
 pub keeps-call_if : (kept : Kept) (x0 : ℕ) (x1 : Val) (x2 : Val) (x3 : List Val) (x4 : Bool) → Goes kept (call_if
     x0 x1 x2 x3 x4)
 keeps-call_if kept s f this vs false = keeps-type_error kept s
-keeps-call_if kept s f this vs true = keeps-answer kept (perform s (Call this vs) f) (λ _ _. tt)
+keeps-call_if kept s f this vs true = keeps-answer kept (perform s (Call this vs) f) (λ _. (λ _. tt, λ _ _. refl))
 
 pub keeps-call_all : (kept : Kept) (x0 : ℕ) (x1 : Val) (x2 : Val) (x3 : List Val) → Goes kept (call_all x0 x1 x2 x3)
 keeps-call_all kept s f this vs = keeps->>= kept (look (λ g. is_callable g f)) (λ c. call_if s f this vs c)
@@ -26,7 +27,7 @@ keeps-call_all kept s f this vs = keeps->>= kept (look (λ g. is_callable g f)) 
 
 pub keeps-new_if : (kept : Kept) (x0 : ℕ) (x1 : Val) (x2 : List Val) (x3 : Bool) → Goes kept (new_if x0 x1 x2 x3)
 keeps-new_if kept s f vs false = keeps-type_error kept s
-keeps-new_if kept s f vs true = keeps-answer kept (perform s (Construct vs f) f) (λ _ _. tt)
+keeps-new_if kept s f vs true = keeps-answer kept (perform s (Construct vs f) f) (λ _. (λ _. tt, λ _ _. refl))
 
 pub keeps-new_all : (kept : Kept) (x0 : ℕ) (x1 : Val) (x2 : List Val) → Goes kept (new_all x0 x1 x2)
 keeps-new_all kept s f vs = keeps->>= kept (look (λ g. is_constructor g f)) (λ c. new_if s f vs c) (keeps-look kept
@@ -66,11 +67,11 @@ keeps-constructor_got kept c ns f = keeps->>= kept (arguments c ns []) (λ vs. n
 
 pub keeps-or_got : (kept : Kept) (x0 : Context) (x1 : ℕ) (x2 : Val) → Goes kept (or_got x0 x1 x2)
 keeps-or_got kept c right v = keeps-if kept (to_boolean v) (is_value v) (answer (task c right)) (keeps-is_value
-    kept v) (keeps-answer kept (task c right) (λ _ _. tt))
+    kept v) (keeps-answer kept (task c right) (λ _. (λ _. tt, λ _. tt)))
 
 pub keeps-and_got : (kept : Kept) (x0 : Context) (x1 : ℕ) (x2 : Val) → Goes kept (and_got x0 x1 x2)
 keeps-and_got kept c right v = keeps-if kept (to_boolean v) (answer (task c right)) (is_value v) (keeps-answer kept
-    (task c right) (λ _ _. tt)) (keeps-is_value kept v)
+    (task c right) (λ _. (λ _. tt, λ _. tt))) (keeps-is_value kept v)
 
 pub keeps-sequence : (kept : Kept) (x0 : Context) (x1 : List ℕ) (x2 : Val) → Goes kept (sequence x0 x1 x2)
 keeps-sequence kept c [] v = keeps-is_value kept v

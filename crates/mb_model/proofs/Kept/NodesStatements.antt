@@ -7,8 +7,7 @@ use Rattle.mb_model.specs.Writing.{ends, outcome, Does, ◌>>=◌, give, answer,
 use Rattle.mb_model.specs.Nodes.Scopes.{form_at, enter_scope, initialize, declare}
 use Rattle.mb_model.specs.Nodes.Evaluation.{Context, task, eval, with_scope}
 use Rattle.mb_model.specs.Nodes.Statements.{run_each, run_scoped, decl_of, give_each, expr_done, body_ended, while_tested, do_tested, do_test, for_lets, copy_if, for_again, for_last, for_next, for_body, for_turn, for_begun, for_first, enter_if, for_row, loop_form, loop_row, finally_ended, finally, catch_scope, catch, tried, return_row}
-use Rattle.mb_model.specs.Fitting.{Fits}
-use Rattle.mb_model.proofs.Kept.Words.{Kept, Goes, keeps->>=, keeps-again, keeps-answer, keeps-ends, keeps-give, keeps-look, keeps-outcome, keeps-pass}
+use Rattle.mb_model.proofs.Kept.Words.{Kept, Fitted, Goes, keeps->>=, keeps-again, keeps-answer, keeps-ends, keeps-give, keeps-look, keeps-outcome, keeps-pass}
 use Rattle.mb_model.proofs.Kept.NodesScopes.{keeps-copy_scope, keeps-declare, keeps-enter_scope, keeps-initialize}
 use Rattle.mb_model.proofs.Kept.NodesEvaluation.{keeps-eval}
 
@@ -17,7 +16,7 @@ use Rattle.mb_model.proofs.Kept.NodesEvaluation.{keeps-eval}
 pub keeps-run_each : (kept : Kept) (x0 : Context) (x1 : List ℕ) → Goes kept (run_each x0 x1)
 keeps-run_each kept c [] = keeps-give kept Nothing
 keeps-run_each kept c (n ∷ ns) = keeps->>= kept (answer (task c n)) (λ _. run_each c ns) (keeps-answer kept (task c
-    n) (λ _ _. tt)) (λ _. keeps-run_each kept c ns)
+    n) (λ _. (λ _. tt, λ _. tt))) (λ _. keeps-run_each kept c ns)
 
 pub keeps-run_scoped : (kept : Kept) (x0 : Context) (x1 : ℕ) (x2 : List ℕ) → Goes kept (run_scoped x0 x1 x2)
 keeps-run_scoped kept c n ns = keeps->>= kept (enter_scope c.side c.scope n) (λ sc. (declare c.side sc ns) >>= (λ
@@ -48,20 +47,20 @@ keeps-body_ended kept next keeps-next (Return v) = keeps-ends kept (Return v) tt
 keeps-body_ended kept next keeps-next Break = keeps-give kept Nothing
 keeps-body_ended kept next keeps-next Continue = keeps-next
 
-pub keeps-while_tested : (kept : Kept) (x0 : Context) (x1 : Task) (p1 : (g : Graph) → kept.cares → Fits x1 g) (x2 :
-    ℕ) (x3 : Bool) → Goes kept (while_tested x0 x1 x2 x3)
+pub keeps-while_tested : (kept : Kept) (x0 : Context) (x1 : Task) (p1 : (g : Graph) → Fitted kept x1 g) (x2 : ℕ)
+    (x3 : Bool) → Goes kept (while_tested x0 x1 x2 x3)
 keeps-while_tested kept c self fits-self body false = keeps-give kept Nothing
 keeps-while_tested kept c self fits-self body true = keeps->>= kept (outcome (task c body)) (λ o. body_ended (again
-    self) o) (keeps-outcome kept (task c body) (λ _ _. tt)) (λ o. keeps-body_ended kept (again self) (keeps-again
-    kept self fits-self) o)
+    self) o) (keeps-outcome kept (task c body) (λ _. (λ _. tt, λ _. tt))) (λ o. keeps-body_ended kept (again self)
+    (keeps-again kept self fits-self) o)
 
-pub keeps-do_tested : (kept : Kept) (x0 : Task) (p0 : (g : Graph) → kept.cares → Fits x0 g) (x1 : Bool) → Goes kept
+pub keeps-do_tested : (kept : Kept) (x0 : Task) (p0 : (g : Graph) → Fitted kept x0 g) (x1 : Bool) → Goes kept
     (do_tested x0 x1)
 keeps-do_tested kept self fits-self false = keeps-give kept Nothing
 keeps-do_tested kept self fits-self true = keeps-again kept self fits-self
 
-pub keeps-do_test : (kept : Kept) (x0 : Context) (x1 : Task) (p1 : (g : Graph) → kept.cares → Fits x1 g) (x2 : ℕ) →
-    Goes kept (do_test x0 x1 x2)
+pub keeps-do_test : (kept : Kept) (x0 : Context) (x1 : Task) (p1 : (g : Graph) → Fitted kept x1 g) (x2 : ℕ) → Goes
+    kept (do_test x0 x1 x2)
 keeps-do_test kept c self fits-self test = keeps->>= kept (eval c test) (λ x. do_tested self (to_boolean x))
     (keeps-eval kept c test) (λ x. keeps-do_tested kept self fits-self (to_boolean x))
 
@@ -70,12 +69,12 @@ keeps-copy_if kept false sc = keeps-give kept sc
 keeps-copy_if kept true sc = keeps-copy_scope kept sc
 
 pub keeps-for_again : (kept : Kept) (x0 : Context) (x1 : ℕ) → Goes kept (for_again x0 x1)
-keeps-for_again kept c n = keeps-again kept (Loop c.side n c.scope c.this) (λ _ _. tt)
+keeps-for_again kept c n = keeps-again kept (Loop c.side n c.scope c.this) (λ _. (λ _. tt, λ _. tt))
 
 pub keeps-for_last : (kept : Kept) (x0 : Context) (x1 : ℕ) (x2 : Option ℕ) → Goes kept (for_last x0 x1 x2)
 keeps-for_last kept c n None = keeps-for_again kept c n
 keeps-for_last kept c n (Some e) = keeps->>= kept (answer (task c e)) (λ _. for_again c n) (keeps-answer kept (task
-    c e) (λ _ _. tt)) (λ _. keeps-for_again kept c n)
+    c e) (λ _. (λ _. tt, λ _. tt))) (λ _. keeps-for_again kept c n)
 
 pub keeps-for_next : (kept : Kept) (x0 : Context) (x1 : ℕ) (x2 : Bool) (x3 : Option ℕ) → Goes kept (for_next x0 x1
     x2 x3)
@@ -86,8 +85,8 @@ pub keeps-for_body : (kept : Kept) (x0 : Context) (x1 : ℕ) (x2 : Bool) (x3 : O
     kept (for_body x0 x1 x2 x3 x4 x5)
 keeps-for_body kept c n lets last body false = keeps-give kept Nothing
 keeps-for_body kept c n lets last body true = keeps->>= kept (outcome (task c body)) (λ o. body_ended (for_next c n
-    lets last) o) (keeps-outcome kept (task c body) (λ _ _. tt)) (λ o. keeps-body_ended kept (for_next c n lets
-    last) (keeps-for_next kept c n lets last) o)
+    lets last) o) (keeps-outcome kept (task c body) (λ _. (λ _. tt, λ _. tt))) (λ o. keeps-body_ended kept
+    (for_next c n lets last) (keeps-for_next kept c n lets last) o)
 
 pub keeps-for_turn : (kept : Kept) (x0 : Context) (x1 : ℕ) (x2 : Bool) (x3 : Option ℕ) (x4 : Option ℕ) (x5 : ℕ) →
     Goes kept (for_turn x0 x1 x2 x3 x4 x5)
@@ -105,7 +104,8 @@ pub keeps-for_first : (kept : Kept) (x0 : Context) (x1 : ℕ) (x2 : Bool) (x3 : 
     Option ℕ) (x6 : ℕ) → Goes kept (for_first x0 x1 x2 x3 x4 x5 x6)
 keeps-for_first kept c n lets None test last body = keeps-for_begun kept c n lets test last body
 keeps-for_first kept c n lets (Some e) test last body = keeps->>= kept (answer (task c e)) (λ _. for_begun c n lets
-    test last body) (keeps-answer kept (task c e) (λ _ _. tt)) (λ _. keeps-for_begun kept c n lets test last body)
+    test last body) (keeps-answer kept (task c e) (λ _. (λ _. tt, λ _. tt))) (λ _. keeps-for_begun kept c n lets
+    test last body)
 
 pub keeps-enter_if : (kept : Kept) (x0 : Context) (x1 : Bool) (x2 : ℕ) → Goes kept (enter_if x0 x1 x2)
 keeps-enter_if kept c false n = keeps-give kept c.scope
@@ -139,7 +139,7 @@ keeps-finally_ended kept o Continue = keeps-ends kept Continue tt
 pub keeps-finally : (kept : Kept) (x0 : Context) (x1 : Option ℕ) (x2 : Outcome) → Goes kept (finally x0 x1 x2)
 keeps-finally kept c None o = keeps-pass kept o
 keeps-finally kept c (Some e) o = keeps->>= kept (outcome (task c e)) (λ q. finally_ended o q) (keeps-outcome kept
-    (task c e) (λ _ _. tt)) (λ q. keeps-finally_ended kept o q)
+    (task c e) (λ _. (λ _. tt, λ _. tt))) (λ q. keeps-finally_ended kept o q)
 
 pub keeps-catch_scope : (kept : Kept) (x0 : Context) (x1 : ℕ) (x2 : Option (List ℕ)) (x3 : Val) → Goes kept
     (catch_scope x0 x1 x2 x3)
@@ -153,8 +153,10 @@ pub keeps-catch : (kept : Kept) (x0 : Context) (x1 : ℕ) (x2 : Option (List ℕ
 keeps-catch kept c n x None ending v = keeps-finally kept c ending (Throw v)
 keeps-catch kept c n x (Some h) ending v = keeps->>= kept (catch_scope c n x v) (λ sc. (outcome (task (with_scope c
     sc) h)) >>= (λ o. finally c ending o)) (keeps-catch_scope kept c n x v) (λ sc. keeps->>= kept (outcome (task
-    (with_scope c sc) h)) (λ o. finally c ending o) (keeps-outcome kept (task (with_scope c sc) h) (λ _ _. tt)) (λ
-    o. keeps-finally kept c ending o))
+    (with_scope c sc) h)) (λ o. finally c ending o) (keeps-outcome kept (task (with_scope c sc) h) (λ _. (
+      λ _. tt,
+      λ _. tt,
+    ))) (λ o. keeps-finally kept c ending o))
 
 pub keeps-tried : (kept : Kept) (x0 : Context) (x1 : ℕ) (x2 : Option (List ℕ)) (x3 : Option ℕ) (x4 : Option ℕ) (x5
     : Outcome) → Goes kept (tried x0 x1 x2 x3 x4 x5)

@@ -11,6 +11,7 @@ use Rattle.mb_model.specs.Nodes.Scopes.{find_binding, bound_value}
 use Rattle.mb_model.specs.Nodes.Evaluation.{Context, eval}
 use Rattle.mb_model.specs.Nodes.References.{Reference, ToName, ToPlace, inside, bare_form, refer}
 use Rattle.mb_model.specs.Nodes.UnaryOperators.{type_word, typeof_value, typeof_bound, typeof_of, delete_done, delete_at, delete_reference, delete_row, negated, unary}
+use Rattle.std.proofs.Common.{refl}
 use Rattle.mb_model.proofs.Kept.Words.{Kept, Goes, keeps->>=, keeps-flag, keeps-if, keeps-is_value, keeps-look, keeps-or_type_error, keeps-truth, keeps-type_error, keeps-unless_type_error}
 use Rattle.mb_model.proofs.Kept.NodesScopes.{keeps-bound_value}
 use Rattle.mb_model.proofs.Kept.NodesEvaluation.{keeps-eval}
@@ -41,7 +42,7 @@ keeps-delete_done kept s b = keeps->>= kept (unless_type_error s b) (λ _. truth
 
 pub keeps-delete_at : (kept : Kept) (x0 : ℕ) (x1 : PropertyKey) (x2 : Val) → Goes kept (delete_at x0 x1 x2)
 keeps-delete_at kept s k o = keeps->>= kept (flag (perform s (Delete k) o)) (λ b. delete_done s b) (keeps-flag kept
-    (perform s (Delete k) o) (λ _ _. tt)) (λ b. keeps-delete_done kept s b)
+    (perform s (Delete k) o) (λ _. (λ _. tt, λ _ _. refl))) (λ b. keeps-delete_done kept s b)
 
 pub keeps-delete_reference : (kept : Kept) (x0 : Context) (x1 : Reference) → Goes kept (delete_reference x0 x1)
 keeps-delete_reference kept c (ToName x) = keeps-type_error kept c.side

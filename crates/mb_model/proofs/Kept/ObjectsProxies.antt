@@ -14,6 +14,7 @@ use Rattle.mb_model.specs.Operations.Makings.{make_array}
 use Rattle.mb_model.specs.Operations.Calls.{get, list_of}
 use Rattle.mb_model.specs.Operations.Descriptors.{todesc, fromdesc}
 use Rattle.mb_model.specs.Objects.Proxies.{Parted, judge, read_extensible, read_own, prototype_read, prototype_extensible, prototype_said, set_prototype_read, set_prototype_extensible, set_prototype_said, extensible_read, extensible_said, prevent_read, prevent_said, absent_extensible, absent_read, absent_said, own_extensible, own_read, own_converted, own_present_said, own_said, define_extensible, define_read, define_said, has_said, get_read, get_said, set_read, set_said, delete_said, with_parted, keys_parted, keys_read, keys_extensible, as_keys, keys_listed, keys_said, construct_said, trap_value, trap_flag, trapped, call_trap, trap_callable}
+use Rattle.std.proofs.Common.{refl}
 use Rattle.mb_model.proofs.Kept.Words.{Kept, Goes, keeps->>=, keeps-flag, keeps-give, keeps-if, keeps-keys, keeps-look, keeps-property, keeps-type_error, keeps-unless_type_error, keeps-value, keeps-yes_or_no}
 use Rattle.mb_model.proofs.Kept.Made.{keeps-fromdesc}
 use Rattle.mb_model.proofs.Kept.OperationsCalls.{keeps-call, keeps-list_of}
@@ -27,10 +28,10 @@ keeps-judge kept p Pass a = keeps-give kept a
 keeps-judge kept p (Broken n) a = keeps-type_error kept p
 
 pub keeps-read_extensible : (kept : Kept) (x0 : ℕ) (x1 : Val) → Goes kept (read_extensible x0 x1)
-keeps-read_extensible kept p t = keeps-flag kept (perform p IsExtensible t) (λ _ _. tt)
+keeps-read_extensible kept p t = keeps-flag kept (perform p IsExtensible t) (λ _. (λ _. tt, λ _ _. refl))
 
 pub keeps-read_own : (kept : Kept) (x0 : ℕ) (x1 : Val) (x2 : PropertyKey) → Goes kept (read_own x0 x1 x2)
-keeps-read_own kept p t k = keeps-property kept (perform p (GetOwnProperty k) t) (λ _ _. tt)
+keeps-read_own kept p t k = keeps-property kept (perform p (GetOwnProperty k) t) (λ _. (λ _. tt, λ _ _. refl))
 
 pub keeps-prototype_read : (kept : Kept) (x0 : ℕ) (x1 : Val) (x2 : Val) → Goes kept (prototype_read x0 x1 x2)
 keeps-prototype_read kept p said real = keeps-judge kept p (rule.get_prototype said (Some real)) (Value said)
@@ -39,8 +40,8 @@ pub keeps-prototype_extensible : (kept : Kept) (x0 : ℕ) (x1 : Val) (x2 : Val) 
     (prototype_extensible x0 x1 x2 x3)
 keeps-prototype_extensible kept p t said true = keeps-judge kept p (rule.get_prototype said None) (Value said)
 keeps-prototype_extensible kept p t said false = keeps->>= kept (value (perform p GetPrototypeOf t)) (λ real.
-    prototype_read p said real) (keeps-value kept (perform p GetPrototypeOf t) (λ _ _. tt)) (λ real.
-    keeps-prototype_read kept p said real)
+    prototype_read p said real) (keeps-value kept (perform p GetPrototypeOf t) (λ _. (λ _. tt, λ _ _. refl))) (λ
+    real. keeps-prototype_read kept p said real)
 
 pub keeps-prototype_said : (kept : Kept) (x0 : ℕ) (x1 : Val) (x2 : Val) → Goes kept (prototype_said x0 x1 x2)
 keeps-prototype_said kept p t said = keeps->>= kept (unless_type_error p (is_object said || is_null said)) (λ _.
@@ -56,8 +57,8 @@ pub keeps-set_prototype_extensible : (kept : Kept) (x0 : ℕ) (x1 : Val) (x2 : V
     (set_prototype_extensible x0 x1 x2 x3)
 keeps-set_prototype_extensible kept p t given true = keeps-judge kept p (rule.set_prototype given None) (Flag true)
 keeps-set_prototype_extensible kept p t given false = keeps->>= kept (value (perform p GetPrototypeOf t)) (λ real.
-    set_prototype_read p given real) (keeps-value kept (perform p GetPrototypeOf t) (λ _ _. tt)) (λ real.
-    keeps-set_prototype_read kept p given real)
+    set_prototype_read p given real) (keeps-value kept (perform p GetPrototypeOf t) (λ _. (λ _. tt, λ _ _. refl)))
+    (λ real. keeps-set_prototype_read kept p given real)
 
 pub keeps-set_prototype_said : (kept : Kept) (x0 : ℕ) (x1 : Val) (x2 : Val) (x3 : Bool) → Goes kept
     (set_prototype_said x0 x1 x2 x3)
@@ -185,8 +186,8 @@ keeps-keys_read kept p t said extensible ks = keeps-keys_parted kept p t said ex
 pub keeps-keys_extensible : (kept : Kept) (x0 : ℕ) (x1 : Val) (x2 : List PropertyKey) (x3 : Bool) → Goes kept
     (keys_extensible x0 x1 x2 x3)
 keeps-keys_extensible kept p t said extensible = keeps->>= kept (keys (perform p OwnPropertyKeys t)) (λ ks.
-    keys_read p t said extensible ks) (keeps-keys kept (perform p OwnPropertyKeys t) (λ _ _. tt)) (λ ks.
-    keeps-keys_read kept p t said extensible ks)
+    keys_read p t said extensible ks) (keeps-keys kept (perform p OwnPropertyKeys t) (λ _. (λ _. tt, λ _ _. refl)))
+    (λ ks. keeps-keys_read kept p t said extensible ks)
 
 pub keeps-keys_listed : (kept : Kept) (x0 : ℕ) (x1 : Val) (x2 : List PropertyKey) → Goes kept (keys_listed x0 x1 x2)
 keeps-keys_listed kept p t said = keeps->>= kept (judge p (rule.own_keys said [] [] true) Nothing) (λ _.

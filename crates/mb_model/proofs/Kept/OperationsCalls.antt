@@ -8,15 +8,16 @@ use Rattle.mb_world.specs.View.{is_cut}
 use Rattle.mb_model.specs.Task.{Get, Set, Call}
 use Rattle.mb_model.specs.Writing.{◌>>=◌, give, pay, look, flag, perform, type_error, unless_type_error, or_type_error}
 use Rattle.mb_model.specs.Operations.Calls.{get, call, text_property, getv, set_in, putv, not_below_zero, length_from, length_of, listed, list_got, list_from, list_of_object, list_of, target_is_array, array_target, array_kind, array_thing_is, is_array}
+use Rattle.std.proofs.Common.{refl}
 use Rattle.mb_model.proofs.Kept.Words.{Kept, Goes, keeps->>=, keeps-flag, keeps-give, keeps-if, keeps-look, keeps-or_type_error, keeps-pay, keeps-type_error, keeps-unless_type_error, keeps-value}
 
 -- what the parts of these rows keep (written by tools/kept.py)
 
 pub keeps-get : (kept : Kept) (x0 : ℕ) (x1 : Val) (x2 : PropertyKey) → Goes kept (get x0 x1 x2)
-keeps-get kept s o k = keeps-value kept (perform s (Get k o) o) (λ _ _. tt)
+keeps-get kept s o k = keeps-value kept (perform s (Get k o) o) (λ _. (λ _. tt, λ _ _. refl))
 
 pub keeps-call : (kept : Kept) (x0 : ℕ) (x1 : Val) (x2 : Val) (x3 : List Val) → Goes kept (call x0 x1 x2 x3)
-keeps-call kept s f this vs = keeps-value kept (perform s (Call this vs) f) (λ _ _. tt)
+keeps-call kept s f this vs = keeps-value kept (perform s (Call this vs) f) (λ _. (λ _. tt, λ _ _. refl))
 
 pub keeps-getv : (kept : Kept) (x0 : ℕ) (x1 : Val) (x2 : PropertyKey) → Goes kept (getv x0 x1 x2)
 keeps-getv kept s (Text t) k = keeps-give kept (text_property t k)
@@ -26,7 +27,8 @@ keeps-getv kept s v k = keeps-if kept (is_object v) (get s v k) (if is_nullish v
 
 pub keeps-set_in : (kept : Kept) (x0 : ℕ) (x1 : Val) (x2 : PropertyKey) (x3 : Val) → Goes kept (set_in x0 x1 x2 x3)
 keeps-set_in kept s o k v = keeps->>= kept (flag (perform s (Set k v o) o)) (λ done. unless_type_error s done)
-    (keeps-flag kept (perform s (Set k v o) o) (λ _ _. tt)) (λ done. keeps-unless_type_error kept s done)
+    (keeps-flag kept (perform s (Set k v o) o) (λ _. (λ _. tt, λ _ _. refl))) (λ done. keeps-unless_type_error kept
+    s done)
 
 pub keeps-putv : (kept : Kept) (x0 : ℕ) (x1 : Val) (x2 : PropertyKey) (x3 : Val) → Goes kept (putv x0 x1 x2 x3)
 keeps-putv kept s v k x = keeps-if kept (is_object v) (set_in s v k x) (type_error s) (keeps-set_in kept s v k x)

@@ -38,6 +38,7 @@ Waiting k n g = (length g.queues ≡ k) × (scripts g.queues ≤ n)
 abbrev pub queued : (k n : ℕ) → Kept
 queued k n = record {
   cares = ⊥;
+  owns = ⊥;
   to = λ f g. Waiting k n g;
   owed = λ b o g. Unit {0};
   ended = λ b g o abrupt h. tt;
@@ -48,7 +49,7 @@ queued k n = record {
   moved = λ f g o t u at by h. beside-objects (Waiting k n) g o u (λ ts. h) h;
   symbols = λ f g ds h. h;
   scopes = λ f g ss h. h;
-  log = λ f g is h. h;
+  log = λ f g i none h. h;
   job = λ f g s v h.
       let same : length (with_job s (CallJob v) g).queues ≡ length g.queues = length-set g.queues s _ in
       let few : scripts (with_job s (CallJob v) g).queues ≡ scripts g.queues = scripts-added g.queues s v in

@@ -1,8 +1,7 @@
 use Rattle.std.proofs.Common.{ℕ, zero, suc, ◌-◌, Bool, true, false, nat_lt, if◌then◌else◌}
-use Rattle.mb_world.specs.Graph.{Graph}
+use Rattle.mb_world.specs.Graph.{Graph, Entry}
 use Rattle.mb_world.specs.Objects.{thing_at}
 use Rattle.mb_model.specs.Engine.{Gives, Spent, Ret, Pay, Turn, Do, Again, by, and_then, charged, exec, within, given, ending}
-use Rattle.mb_model.specs.Fitting.{Fits}
 use Rattle.mb_model.specs.Task.{Task, Evaluate, Loop, Chain, Walk, Perform, Enter, Run, Access, Visit, Answer, Outcome, Normal}
 use Rattle.mb_model.specs.Writing.{Row, Does}
 use Rattle.mb_model.specs.Nodes.Evaluation.{Context}
@@ -13,9 +12,9 @@ use Rattle.mb_model.specs.Nodes.{node_row}
 use Rattle.mb_model.specs.Objects.Methods.{walk_row}
 use Rattle.mb_model.specs.BuiltIns.Collections.{access_row, visit_row}
 use Rattle.mb_model.specs.BuiltIns.{run_row}
-use Rattle.mb_model.specs.Trace.Entries.{makes_entry, is_foreign_at, method_noted, access_noted}
+use Rattle.mb_model.specs.Trace.Entries.{with_entry, method_entry, access_entry, makes_entry, is_foreign_at, method_noted, access_noted}
 use Rattle.mb_model.specs.Meaning.{row, finished, entering, entries_made, perform_row, Ends, Means}
-use Rattle.mb_model.proofs.Kept.Words.{Kept, Along, Holds, At, along-stays, along-on, along-log}
+use Rattle.mb_model.proofs.Kept.Words.{Kept, Along, Fitted, Holds, At, along-stays, along-on}
 use Rattle.mb_model.proofs.Kept.Nodes.{keeps-node_row}
 use Rattle.mb_model.proofs.Kept.NodesStatements.{keeps-loop_row}
 use Rattle.mb_model.proofs.Kept.NodesBinaryOperators.{keeps-chain_row}
@@ -27,14 +26,19 @@ use Rattle.mb_model.proofs.Kept.BuiltInsCollections.{keeps-visit_row}
 
 -- what goes on along the changes of rows goes on along the whole meaning
 
--- nothing more is owed, and nothing known
+-- nothing more is owed, nothing known, and an entry more changes nothing
 pub record IsPlain (kept : Kept) : Type 0 where
   pub owes : (b g : Graph) (o : Outcome) → kept.to b g → kept.owed b o g
   pub knows : (t : Task) (s g : Graph) (o : Outcome) → kept.known t s o g
+  pub notes : (b g : Graph) (e : Entry) → kept.to b g → kept.to b (with_entry e g)
+
+-- nothing more is owed where a row ends
+abbrev pub OwesNothing : Kept → Type 0
+OwesNothing kept = (b g : Graph) (o : Outcome) → kept.to b g → kept.owed b o g
 
 -- a whole row
-whole : (kept : Kept) (g : Graph) (m : Does Answer) → IsPlain kept → At kept g m → Along kept g g → Holds kept g (m finished g)
-whole kept g m plain p a = p finished g a (λ x g' q. (q, plain.owes g g' (Normal x) q.1))
+whole : (kept : Kept) (g : Graph) (m : Does Answer) → OwesNothing kept → At kept g m → Along kept g g → Holds kept g (m finished g)
+whole kept g m owes p a = p finished g a (λ x g' q. (q, owes g g' (Normal x) q.1))
 
 pub ending-holds : (kept : Kept) (b : Graph) (noted : Outcome → Graph → Graph) (p : Row) →
     ((o : Outcome) (g : Graph) → Along kept b g → kept.owed b o g → Along kept b (noted o g) × kept.owed b o (noted o g)) →
@@ -51,30 +55,55 @@ pub entering-holds : (kept : Kept) (b : Graph) (enters : Bool) (noted : Outcome 
 entering-holds kept b true noted p n h = ending-holds kept b noted p n h
 entering-holds kept b false noted p n h = h
 
-row-holds : (kept : Kept) → IsPlain kept → (t : Task) (g : Graph) → (kept.cares → Fits t g) → Along kept g g →
+-- the row of a task, without the entry that it may make where it ends
+abbrev pub plain_row : Task → Graph → Row
+plain_row (Perform s m o v enters) = perform_row s v o m finished
+plain_row (Access s p c a) = access_row s c a finished
+plain_row t = row t
+
+pub plain-holds : (kept : Kept) → OwesNothing kept → (t : Task) (g : Graph) → Fitted kept t g → Along kept g g →
+    Holds kept g (plain_row t g)
+plain-holds kept owes (Evaluate s n sc this) g fit a =
+    let c : Context = record { side = s; scope = sc; this = this } in
+    whole kept g (node_row c n) owes ((keeps-node_row kept c n).goes g) a
+plain-holds kept owes (Loop s n sc this) g fit a =
+    let c : Context = record { side = s; scope = sc; this = this } in
+    whole kept g (loop_row c n) owes ((keeps-loop_row kept c n).goes g) a
+plain-holds kept owes (Chain s x p) g fit a = whole kept g (chain_row s x p) owes ((keeps-chain_row kept s x p).goes g) a
+plain-holds kept owes (Walk o p x) g fit a = whole kept g (walk_row o p x) owes (at-walk_row kept g o p x fit.0) a
+plain-holds kept owes (Perform s m o v enters) g fit a =
+    whole kept g (perform_row s v o m) owes (at-perform_row kept g s v o m fit.0) a
+plain-holds kept owes (Enter f this vs) g fit a =
+    whole kept g (enter_row f this vs) owes ((keeps-enter_row kept f this vs).goes g) a
+plain-holds kept owes (Run s p this vs target) g fit a =
+    whole kept g (run_row s p this vs target) owes ((keeps-run_row kept s p this vs target).goes g) a
+plain-holds kept owes (Access s p c r) g fit a = whole kept g (access_row s c r) owes (at-access_row kept g s c r) a
+plain-holds kept owes (Visit s p c f this n) g fit a =
+    whole kept g (visit_row s p c f this n) owes ((keeps-visit_row kept s p c f this n).goes g) a
+
+noted-holds : (kept : Kept) → IsPlain kept → (b : Graph) (e : Outcome → Graph → Entry) (o : Outcome) (g : Graph) →
+    Along kept b g → Along kept b (with_entry (e o g) g) × kept.owed b o (with_entry (e o g) g)
+noted-holds kept plain b e o g h =
+    let to = plain.notes b g (e o g) h.1 in
+    ((λ a x. h.0 a x, to), plain.owes b (with_entry (e o g) g) o to)
+
+row-holds : (kept : Kept) → IsPlain kept → (t : Task) (g : Graph) → Fitted kept t g → Along kept g g →
     Holds kept g (row t g)
-row-holds kept plain (Evaluate s n sc this) g fit a =
-    let c : Context = record { side = s; scope = sc; this = this } in
-    whole kept g (node_row c n) plain ((keeps-node_row kept c n).goes g) a
-row-holds kept plain (Loop s n sc this) g fit a =
-    let c : Context = record { side = s; scope = sc; this = this } in
-    whole kept g (loop_row c n) plain ((keeps-loop_row kept c n).goes g) a
-row-holds kept plain (Chain s x p) g fit a = whole kept g (chain_row s x p) plain ((keeps-chain_row kept s x p).goes g) a
-row-holds kept plain (Walk o p x) g fit a = whole kept g (walk_row o p x) plain (at-walk_row kept g o p x fit) a
 row-holds kept plain (Perform s m o v enters) g fit a =
     entering-holds kept g (makes_entry enters s o g) (method_noted (entries_made g) s o m) (perform_row s v o m finished g)
-    (λ q g' h i. let j = along-log kept g g' (method_noted (entries_made g) s o m q g').log h in (j, plain.owes g _ q j.1))
-    (whole kept g (perform_row s v o m) plain (at-perform_row kept g s v o m fit) a)
-row-holds kept plain (Enter f this vs) g fit a =
-    whole kept g (enter_row f this vs) plain ((keeps-enter_row kept f this vs).goes g) a
-row-holds kept plain (Run s p this vs target) g fit a =
-    whole kept g (run_row s p this vs target) plain ((keeps-run_row kept s p this vs target).goes g) a
+    (λ q g' h i. noted-holds kept plain g (λ o' _. method_entry (entries_made g) s o m o') q g' h)
+    (plain-holds kept plain.owes (Perform s m o v enters) g fit a)
 row-holds kept plain (Access s p c r) g fit a =
     entering-holds kept g (is_foreign_at s (thing_at g c)) (access_noted (entries_made g) s p c r) (access_row s c r finished g)
-    (λ q g' h i. let j = along-log kept g g' (access_noted (entries_made g) s p c r q g').log h in (j, plain.owes g _ q j.1))
-    (whole kept g (access_row s c r) plain (at-access_row kept g s c r) a)
-row-holds kept plain (Visit s p c f this n) g fit a =
-    whole kept g (visit_row s p c f this n) plain ((keeps-visit_row kept s p c f this n).goes g) a
+    (λ q g' h i. noted-holds kept plain g (λ o' _. access_entry (entries_made g) s p c r o') q g' h)
+    (plain-holds kept plain.owes (Access s p c r) g fit a)
+row-holds kept plain (Evaluate s n sc this) g fit a = plain-holds kept plain.owes (Evaluate s n sc this) g fit a
+row-holds kept plain (Loop s n sc this) g fit a = plain-holds kept plain.owes (Loop s n sc this) g fit a
+row-holds kept plain (Chain s x p) g fit a = plain-holds kept plain.owes (Chain s x p) g fit a
+row-holds kept plain (Walk o p x) g fit a = plain-holds kept plain.owes (Walk o p x) g fit a
+row-holds kept plain (Enter f this vs) g fit a = plain-holds kept plain.owes (Enter f this vs) g fit a
+row-holds kept plain (Run s p this vs target) g fit a = plain-holds kept plain.owes (Run s p this vs target) g fit a
+row-holds kept plain (Visit s p c f this n) g fit a = plain-holds kept plain.owes (Visit s p c f this n) g fit a
 
 -- ---- what tasks give
 
@@ -101,7 +130,7 @@ then-owed kept b s t (Spent s' f) k a h n = along-on kept b s s' a h
 
 -- each task that fits goes on from where it begins, and ends as is known
 abbrev pub DoesSo : Kept → (Task → Graph → ℕ → Ends) → Type 0
-DoesSo kept r = (t : Task) (s : Graph) (f : ℕ) → (kept.cares → Fits t s) → Along kept s s → EndKnown kept t s (r t s f)
+DoesSo kept r = (t : Task) (s : Graph) (f : ℕ) → Fitted kept t s → Along kept s s → EndKnown kept t s (r t s f)
 
 charged-known : (kept : Kept) (r : Task → Graph → ℕ → Ends) → DoesSo kept r → DoesSo kept (charged r)
 charged-known kept r n t s zero fit a = a
@@ -145,12 +174,12 @@ end-holds : (kept : Kept) (t : Task) (b : Graph) (r : Ends) → EndKnown kept t 
 end-holds kept t b (Gives o s f) h = h.0.1
 end-holds kept t b (Spent s f) h = h.1
 
-pub given-holds : (kept : Kept) → IsPlain kept → (t : Task) (s : Graph) (f : ℕ) → (kept.cares → Fits t s) → kept.to s s →
+pub given-holds : (kept : Kept) → IsPlain kept → (t : Task) (s : Graph) (f : ℕ) → Fitted kept t s → kept.to s s →
     EndHolds kept s (given row t s f)
 given-holds kept plain t s f fit h =
     end-holds kept t s (given row t s f) (given-known kept plain t s f fit (λ a x. x, h))
 
-pub means-holds : (kept : Kept) → IsPlain kept → (t : Task) (s : Graph) (f : ℕ) → (kept.cares → Fits t s) → kept.to s s →
+pub means-holds : (kept : Kept) → IsPlain kept → (t : Task) (s : Graph) (f : ℕ) → Fitted kept t s → kept.to s s →
     EndHolds kept s (Means t s f)
 means-holds kept plain t s f fit h =
     end-holds kept t s (Means t s f) (charged-known kept (given row) (given-known kept plain) t s f fit (λ a x. x, h))

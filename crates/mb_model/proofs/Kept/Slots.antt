@@ -23,7 +23,7 @@ at-slots : (kept : Kept) (g : Graph) (c : Val) (kind : Coll) (ps qs : Slots) (m 
     ((h : Graph) → At kept h m) → At kept g (alter c (with_slots kind qs) >>= (λ _. m))
 at-slots kept g c kind ps qs m at more =
     at-then kept g (alter c (with_slots kind qs)) (λ _. m)
-    (at-alter_there kept g c (with_slots kind qs) at.0 at.1 (Recast (Collection kind qs) (ap target_is_array at.2) (ap is_proxy_kind at.2) refl))
+    (at-alter_there kept g c (with_slots kind qs) at.0 at.1 (Recast (Collection kind qs) (ap target_is_array at.2) (ap is_proxy_kind at.2) refl refl))
     (λ _ g' q. more g')
 
 at-pair_stored : (kept : Kept) (g : Graph) (s : ℕ) (c : Val) (kind : Coll) (ps : Slots) (k v : Val) (b : Bool) →

@@ -15,7 +15,7 @@ use Rattle.mb_model.specs.Nodes.Literals.{elements}
 use Rattle.mb_model.specs.BuiltIns.Arguments.{arg, need_callable}
 use Rattle.mb_model.specs.BuiltIns.Arrays.{array_start, each_turn, fresh_array}
 use Rattle.mb_model.specs.BuiltIns.ArrayMembers.{callback, map_found, map_each, map_row, filter_kept, filter_called, filter_found, filter_each, filter_row, index_arg, slice_found, slice_each, slice}
-use Rattle.mb_model.proofs.Kept.Changes.{is_array_at, Lasts}
+use Rattle.mb_model.proofs.Kept.Changes.{Apart, is_array_at, Lasts}
 use Rattle.mb_model.proofs.Kept.Words.{Kept, Along, Gets, At, Goes, along-stays, along-made, at-then, gets-then, gets-fail, keeps->>=, keeps-give, keeps-is_value}
 use Rattle.mb_model.proofs.Kept.Made.{new-array_thing, last-made}
 use Rattle.mb_model.proofs.Kept.Defined.{at-store_element}
@@ -33,7 +33,7 @@ gets-array : (kept : Kept) (g : Graph) (s : ℕ) (p : Val) (n : ℕ) (vs : List 
     Gets kept GivesArray g (make (array_thing s p n vs))
 gets-array kept g s p n vs k b a h =
     let t : Thing = array_thing s p n vs in
-    h _ _ (along-made kept g g t (new-array_thing s p n vs) (along-stays kept b g a))
+    h _ _ (along-made kept g g t (Apart (new-array_thing s p n vs)) (along-stays kept b g a))
     (ap (thing_is target_is_array) (last-made g t))
 
 gets-fresh : (kept : Kept) (g : Graph) (s n : ℕ) → Gets kept GivesArray g (fresh_array s n)

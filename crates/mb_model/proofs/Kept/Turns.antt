@@ -33,8 +33,8 @@ job-below s (CallJob v) g (suc f) =
     below-by (suc f + 0) (job_ends s (CallJob v) g (suc f)) (omega (arith, h))
 
 job-holds : (kept : Kept) → IsPlain kept → (s : ℕ) (j : Job) (g : Graph) (f : ℕ) → kept.to g g → EndHolds kept g (job_ends s j g f)
-job-holds kept plain s Script g f h = given-holds kept plain _ g f (λ _. tt) h
-job-holds kept plain s (CallJob v) g f h = means-holds kept plain _ g f (λ _. tt) h
+job-holds kept plain s Script g f h = given-holds kept plain _ g f (λ _. tt, λ _. tt) h
+job-holds kept plain s (CallJob v) g f h = means-holds kept plain _ g f (λ _. tt, λ _ _. refl) h
 
 -- the units that are left, and the scripts that wait
 abbrev pub to_come : Stage → ℕ
@@ -87,7 +87,7 @@ busy t s (Some (j ∷ js)) e f =
     let fewer : scripts g.queues + script_of j ≡ n = scripts-taken (t.graph.queues) s j js e in
     let same : length g.queues ≡ k = length-set (t.graph.queues) s js in
     let kept : EndHolds (queued k (scripts g.queues)) g (job_ends s j g t.left) =
-    job-holds (queued k (scripts g.queues)) (record { owes = λ b h o q. tt; knows = λ u s h o. tt }) s j g t.left (same, omega arith) in
+    job-holds (queued k (scripts g.queues)) (record { owes = λ b h o q. tt; knows = λ u s h o. tt; notes = λ b h e q. q }) s j g t.left (same, omega arith) in
     let ran : Less k (scripts g.queues) (to_come t) (after t s (turn_ended s (job_ends s j g t.left))) =
     ran-less k (scripts g.queues) (to_come t) t s g (job_ends s j g t.left) (t.left + script_of j) kept
     (job-below s j g t.left) (omega (arith, fewer)) in

@@ -8,12 +8,13 @@ use Rattle.mb_world.specs.Objects.{thing_at, with_thing, new_thing}
 use Rattle.mb_world.specs.Standard.{error_prototype}
 use Rattle.mb_model.specs.Engine.{Ret, Pay, Turn, Do, Again}
 use Rattle.mb_model.specs.Task.{Task, Answer, Nothing, Value, Outcome, Normal, Throw, Return, Break, Continue}
-use Rattle.mb_model.specs.Fitting.{Fits}
+use Rattle.mb_model.specs.Fitting.{Fits, SeesItself}
 use Rattle.mb_model.specs.Writing.{Row, Does, ◌>>=◌, give, is_value, truth, yes_or_no, ends, throw, pass, outcome, answer, again, pay, turn, pay_each, look, change, value_in, flag_in, property_in, keys_in, value, flag, property, keys, with_object, make, with_symbol, make_symbol, fail, type_error, range_error, reference_error, or_type_error, unless_type_error, log}
 use Rattle.mb_model.specs.Operations.Makings.{altered, alter}
 use Rattle.mb_model.specs.Nodes.Scopes.{add_scope, giving}
 use Rattle.mb_model.specs.BuiltIns.Basics.{with_job}
-use Rattle.mb_model.proofs.Kept.Changes.{IsNew, NewOther, Change, Lasts, moved-lasts, made-lasts}
+use Rattle.mb_model.specs.Trace.Entries.{entry_of}
+use Rattle.mb_model.proofs.Kept.Changes.{IsNew, NewOther, IsMade, Apart, Change, Lasts, moved-lasts, made-lasts}
 
 -- a row ends without an answer
 abbrev pub IsAbrupt : Outcome → Type 0
@@ -21,22 +22,24 @@ IsAbrupt (Normal a) = ⊥
 IsAbrupt _ = Unit {0}
 
 -- a relation between an earlier graph and a later one that goes on along each change which a row can make: an object is
--- made or changes, symbols, scopes and the log change, and a queue gets one more call. It may care that tasks fit; more
--- may be owed where a row ends, which one that ends without an answer owes at once, and be known of how tasks end
+-- made or changes, symbols and scopes change, the log gets an item that is no entry, and a queue one more call. It may
+-- care that tasks fit, and that each side's own view stands where an entry may be made; more may be owed where a row
+-- ends, which one that ends without an answer owes at once, and be known of how tasks end
 pub record Kept : Type 1 where
   pub cares : Type 0
+  pub owns : Type 0
   pub to : Graph → Graph → Type 0
   pub owed : Graph → Outcome → Graph → Type 0
   pub ended : (b g : Graph) (o : Outcome) → IsAbrupt o → to b g → owed b o g
   pub known : Task → Graph → Outcome → Graph → Type 0
   pub stays : (f g : Graph) → to f g → to g g
   pub goes_on : (f g h : Graph) → to f g → to g h → to f h
-  pub made : (f g : Graph) (t : Thing) → IsNew t → to f g → to f (with_object t g)
+  pub made : (f g : Graph) (t : Thing) → IsMade g t → to f g → to f (with_object t g)
   pub moved : (f g : Graph) (o : Val) (t u : Thing) → thing_at g o ≡ Some t → Change cares g t u → to f g
       → to f (with_thing o u g)
   pub symbols : (f g : Graph) (ds : List (Option (List ℕ))) → to f g → to f (record g { symbols = ds })
   pub scopes : (f g : Graph) (ss : List Scope) → to f g → to f (record g { scopes = ss })
-  pub log : (f g : Graph) (is : List Item) → to f g → to f (record g { log = is })
+  pub log : (f g : Graph) (i : Item) → entry_of i ≡ [] → to f g → to f (record g { log = g.log ++ (i ∷ []) })
   pub job : (f g : Graph) (s : ℕ) (v : Val) → to f g → to f (with_job s (CallJob v) g)
 
 -- and each array stays one
@@ -49,15 +52,16 @@ along-stays kept f g p = (λ a h. h, kept.stays f g p.1)
 pub along-on : (kept : Kept) (f g h : Graph) → Along kept f g → Along kept g h → Along kept f h
 along-on kept f g h p q = (λ a x. q.0 a (p.0 a x), kept.goes_on f g h p.1 q.1)
 
-pub along-made : (kept : Kept) (f g : Graph) (t : Thing) → IsNew t → Along kept f g → Along kept f (with_object t g)
+pub along-made : (kept : Kept) (f g : Graph) (t : Thing) → IsMade g t → Along kept f g → Along kept f (with_object t g)
 along-made kept f g t new p = (λ a x. made-lasts g t a (p.0 a x), kept.made f g t new p.1)
 
 pub along-moved : (kept : Kept) (f g : Graph) (o : Val) (t u : Thing) → thing_at g o ≡ Some t → Change kept.cares g t u →
     Along kept f g → Along kept f (with_thing o u g)
 along-moved kept f g o t u at by p = (λ a x. moved-lasts kept.cares g o t u at by a (p.0 a x), kept.moved f g o t u at by p.1)
 
-pub along-log : (kept : Kept) (f g : Graph) (is : List Item) → Along kept f g → Along kept f (record g { log = is })
-along-log kept f g is p = (λ a x. p.0 a x, kept.log f g is p.1)
+along-log : (kept : Kept) (f g : Graph) (i : Item) → entry_of i ≡ [] → Along kept f g →
+    Along kept f (record g { log = g.log ++ (i ∷ []) })
+along-log kept f g i none p = (λ a x. p.0 a x, kept.log f g i none p.1)
 
 along-symbols : (kept : Kept) (f g : Graph) (ds : List (Option (List ℕ))) → Along kept f g →
     Along kept f (record g { symbols = ds })
@@ -69,15 +73,19 @@ along-scopes kept f g ss p = (λ a x. p.0 a x, kept.scopes f g ss p.1)
 along-job : (kept : Kept) (f g : Graph) (s : ℕ) (v : Val) → Along kept f g → Along kept f (with_job s (CallJob v) g)
 along-job kept f g s v p = (λ a x. p.0 a x, kept.job f g s v p.1)
 
+-- a task fits, for those who care
+abbrev pub Fitted : Kept → Task → Graph → Type 0
+Fitted kept t g = (kept.cares → Fits t g) × (kept.owns → SeesItself t)
+
 -- the states of a row go on from the graph where it began, and its tasks fit, if they go on wherever a task hands on
 abbrev pub Holds : Kept → Graph → Row → Type 0
 Holds kept b (Ret o s) = Along kept b s × kept.owed b o s
 Holds kept b (Pay n s p) = Along kept b s × Holds kept b p
 Holds kept b (Turn s p) = Along kept b s × Holds kept b p
 Holds kept b (Do t s k) =
-    Along kept b s × (kept.cares → Fits t s) × ((o : Outcome) (s' : Graph) → Along kept s s' → kept.known t s o s' → Holds kept b (k o s'))
+    Along kept b s × Fitted kept t s × ((o : Outcome) (s' : Graph) → Along kept s s' → kept.known t s o s' → Holds kept b (k o s'))
 Holds kept b (Again t s k) =
-    Along kept b s × (kept.cares → Fits t s) × ((o : Outcome) (s' : Graph) → Along kept s s' → kept.known t s o s' → Holds kept b (k o s'))
+    Along kept b s × Fitted kept t s × ((o : Outcome) (s' : Graph) → Along kept s s' → kept.known t s o s' → Holds kept b (k o s'))
 
 -- a part of a row does so from one graph; of what it gives, and of the graph then, more may be known
 abbrev pub Gets : {A : Type 0} → Kept → (A → Graph → Type 0) → Graph → Does A → Type 0
@@ -145,24 +153,24 @@ keeps-pass kept (Return v) = keeps-ends kept (Return v) tt
 keeps-pass kept Break = keeps-ends kept Break tt
 keeps-pass kept Continue = keeps-ends kept Continue tt
 
-pub at-outcome : (kept : Kept) (g : Graph) (t : Task) → (kept.cares → Fits t g) → At kept g (outcome t)
+pub at-outcome : (kept : Kept) (g : Graph) (t : Task) → Fitted kept t g → At kept g (outcome t)
 at-outcome kept g t fit k b p h = (p, fit, λ o s q n. h o s q)
 
-pub at-answer : (kept : Kept) (g : Graph) (t : Task) → (kept.cares → Fits t g) → At kept g (answer t)
+pub at-answer : (kept : Kept) (g : Graph) (t : Task) → Fitted kept t g → At kept g (answer t)
 at-answer kept g t fit k b p h =
     (p, fit, λ o s q n. (keeps-pass kept o).goes s k b (along-on kept b g s p q) (λ a s' q'. h a s' (along-on kept g s s' q q')))
 
-pub at-again : (kept : Kept) (g : Graph) (t : Task) → (kept.cares → Fits t g) → At kept g (again t)
+pub at-again : (kept : Kept) (g : Graph) (t : Task) → Fitted kept t g → At kept g (again t)
 at-again kept g t fit k b p h =
     (p, fit, λ o s q n. (keeps-pass kept o).goes s k b (along-on kept b g s p q) (λ a s' q'. h a s' (along-on kept g s s' q q')))
 
-pub keeps-outcome : (kept : Kept) (t : Task) → ((g : Graph) → kept.cares → Fits t g) → Goes kept (outcome t)
+pub keeps-outcome : (kept : Kept) (t : Task) → ((g : Graph) → Fitted kept t g) → Goes kept (outcome t)
 keeps-outcome kept t fit = record { goes = λ g. at-outcome kept g t (fit g) }
 
-pub keeps-answer : (kept : Kept) (t : Task) → ((g : Graph) → kept.cares → Fits t g) → Goes kept (answer t)
+pub keeps-answer : (kept : Kept) (t : Task) → ((g : Graph) → Fitted kept t g) → Goes kept (answer t)
 keeps-answer kept t fit = record { goes = λ g. at-answer kept g t (fit g) }
 
-pub keeps-again : (kept : Kept) (t : Task) → ((g : Graph) → kept.cares → Fits t g) → Goes kept (again t)
+pub keeps-again : (kept : Kept) (t : Task) → ((g : Graph) → Fitted kept t g) → Goes kept (again t)
 keeps-again kept t fit = record { goes = λ g. at-again kept g t (fit g) }
 
 pub keeps-pay : (kept : Kept) (n : ℕ) → Goes kept (pay n)
@@ -179,19 +187,19 @@ keeps-pay_each kept (x ∷ xs) =
 pub keeps-look : {A : Type 0} (kept : Kept) (f : Graph → A) → Goes kept (look f)
 keeps-look kept f = record { goes = λ g k b p h. h (f g) g (along-stays kept b g p) }
 
-pub keeps-value : (kept : Kept) (t : Task) → ((g : Graph) → kept.cares → Fits t g) → Goes kept (value t)
+pub keeps-value : (kept : Kept) (t : Task) → ((g : Graph) → Fitted kept t g) → Goes kept (value t)
 keeps-value kept t fit =
     keeps->>= kept (answer t) (λ a. give (value_in a)) (keeps-answer kept t fit) (λ a. keeps-give kept (value_in a))
 
-pub keeps-flag : (kept : Kept) (t : Task) → ((g : Graph) → kept.cares → Fits t g) → Goes kept (flag t)
+pub keeps-flag : (kept : Kept) (t : Task) → ((g : Graph) → Fitted kept t g) → Goes kept (flag t)
 keeps-flag kept t fit =
     keeps->>= kept (answer t) (λ a. give (flag_in a)) (keeps-answer kept t fit) (λ a. keeps-give kept (flag_in a))
 
-pub keeps-property : (kept : Kept) (t : Task) → ((g : Graph) → kept.cares → Fits t g) → Goes kept (property t)
+pub keeps-property : (kept : Kept) (t : Task) → ((g : Graph) → Fitted kept t g) → Goes kept (property t)
 keeps-property kept t fit =
     keeps->>= kept (answer t) (λ a. give (property_in a)) (keeps-answer kept t fit) (λ a. keeps-give kept (property_in a))
 
-pub keeps-keys : (kept : Kept) (t : Task) → ((g : Graph) → kept.cares → Fits t g) → Goes kept (keys t)
+pub keeps-keys : (kept : Kept) (t : Task) → ((g : Graph) → Fitted kept t g) → Goes kept (keys t)
 keeps-keys kept t fit =
     keeps->>= kept (answer t) (λ a. give (keys_in a)) (keeps-answer kept t fit) (λ a. keeps-give kept (keys_in a))
 
@@ -199,7 +207,7 @@ pub keeps-make : (kept : Kept) (t : Thing) → IsNew t → Goes kept (make t)
 keeps-make kept t new =
     record {
       goes = λ g k b p h.
-          h (Object (length g.objects)) (with_object t g) (along-made kept g g t new (along-stays kept b g p));
+          h (Object (length g.objects)) (with_object t g) (along-made kept g g t (Apart new) (along-stays kept b g p));
     }
 
 pub keeps-make_symbol : (kept : Kept) (d : Option (List ℕ)) → Goes kept (make_symbol d)
@@ -215,7 +223,7 @@ failed : (kept : Kept) (b g : Graph) (s : ℕ) (kind : ErrorKind) → Along kept
     Holds kept b (Ret (Throw (Object (length g.objects))) (with_object (new_thing s None (Fault kind) (error_prototype kind)) g))
 failed kept b g s kind p =
     let t : Thing = new_thing s None (Fault kind) (error_prototype kind) in
-    let q : Along kept b (with_object t g) = along-made kept b g t (NewOther refl ([], refl)) p in
+    let q : Along kept b (with_object t g) = along-made kept b g t (Apart (NewOther refl ([], refl))) p in
     (q, kept.ended b (with_object t g) (Throw (Object (length g.objects))) tt q.1)
 
 pub gets-fail : {A : Type 0} (kept : Kept) (known : A → Graph → Type 0) (g : Graph) (s : ℕ) (kind : ErrorKind) →
@@ -248,11 +256,11 @@ pub at-unless : {A : Type 0} (kept : Kept) (g : Graph) (s : ℕ) (c : Bool) (m :
 at-unless kept g s true m pm = pm
 at-unless {A} kept g s false m pm = (keeps-type_error {A = A} kept s).goes g
 
-pub keeps-log : (kept : Kept) (i : Item) → Goes kept (log i)
-keeps-log kept i =
+pub keeps-log : (kept : Kept) (i : Item) → entry_of i ≡ [] → Goes kept (log i)
+keeps-log kept i none =
     record {
       goes = λ g k b p h.
-          h Nothing (record g { log = g.log ++ (i ∷ []) }) (along-log kept g g (g.log ++ (i ∷ [])) (along-stays kept b g p));
+          h Nothing (record g { log = g.log ++ (i ∷ []) }) (along-log kept g g i none (along-stays kept b g p));
     }
 
 -- ---- the words that change an object, a scope, a queue

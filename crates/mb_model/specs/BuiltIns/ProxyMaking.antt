@@ -1,10 +1,10 @@
-use Rattle.std.specs.Prelude.{ℕ, List, [], not, ◌&&◌, None, codes}
+use Rattle.std.specs.Prelude.{ℕ, List, [], Bool, not, ◌&&◌, None, codes}
 use Rattle.mb_world.specs.Value.{Val, number_of, Null, Object, is_object, is_undefined}
 use Rattle.mb_world.specs.Key.{Named}
 use Rattle.mb_world.specs.Property.{open_property}
-use Rattle.mb_world.specs.Graph.{Kind, Plain, Proxy, Gone, Revoker, Thing}
+use Rattle.mb_world.specs.Graph.{Graph, Kind, Plain, Proxy, Gone, Revoker, Thing}
 use Rattle.mb_world.specs.Standard.{object_prototype, function_prototype}
-use Rattle.mb_world.specs.Objects.{is_proxy, shape_of, with_property, new_thing}
+use Rattle.mb_world.specs.Objects.{thing_at, thing_is, is_proxy_kind, shape_of, with_property, new_thing}
 use Rattle.mb_model.specs.Task.{Answer, Value}
 use Rattle.mb_model.specs.Writing.{Does, ◌>>=◌, give, look, make, unless_type_error}
 use Rattle.mb_model.specs.Operations.Makings.{with_length_and_name, alter}
@@ -12,11 +12,15 @@ use Rattle.mb_model.specs.BuiltIns.Arguments.{arg, undefined}
 
 -- Proxy and Proxy.revocable (ECMA-262 28.2)
 
+-- what may be a Proxy's target: an object that is there and is no Proxy
+abbrev pub may_be_target : Graph → Val → Bool
+may_be_target g t = thing_is (λ kind. not (is_proxy_kind kind)) (thing_at g t)
+
 -- ProxyCreate (ECMA-262 10.5.14); a Proxy's target is no Proxy here
 abbrev pub proxy_create : ℕ → Val → Val → Does Val
 proxy_create s t h = do
-  nested ← look (λ g. is_proxy g t)
-  _ ← unless_type_error s (is_object t && is_object h && not nested)
+  able ← look (λ g. may_be_target g t)
+  _ ← unless_type_error s (able && is_object h)
   shape ← look (λ g. shape_of g t)
   make (new_thing s None (Proxy t h shape) Null)
 
