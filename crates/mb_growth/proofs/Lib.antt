@@ -21,3 +21,7 @@ pub mod Reading
 pub mod Tails
 pub mod Keyed
 pub mod Proxies
+pub mod Entered
+pub mod Promised
+pub mod Truly
+pub mod Lawful

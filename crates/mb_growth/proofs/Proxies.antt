@@ -182,7 +182,7 @@ module _ (p : ℕ) (k : Val) (b : Graph) (u : Thing) (t : IsTarget k b u) where
   gets-untrapped : (s : ℕ) (m : Method) (g : Graph) (w : Thing) → FitsMethod m → IsTarget k g w → Reaches b g
       → Going m g (answer (Perform s m k p false))
   gets-untrapped s m g w fit target reach c base q more =
-      gets-answer (answering p k m) g (Perform s m k p false) fit c base q
+      gets-answer (answering p k m) g (Perform s m k p false) (λ _. fit, λ c'. absurd c') c base q
       (λ a h on known.
       more a h on (untrapped-owes m g h w a target reach on.1 (known w target.0 target.1 fit reach.0.0).0))
 

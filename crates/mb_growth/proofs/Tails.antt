@@ -15,12 +15,11 @@ use Rattle.mb_world.specs.Objects.{thing_at, is_proxy_kind}
 use Rattle.mb_world.specs.View.{shown_property, shown_keys, Shown}
 use Rattle.mb_model.specs.Engine.{by, given}
 use Rattle.mb_model.specs.Task.{Task, Answer, Value, Flag, Prop, Method, GetPrototypeOf, SetPrototypeOf, IsExtensible, PreventExtensions, GetOwnProperty, HasProperty, Delete, OwnPropertyKeys, Outcome, Normal, Throw, Return, Break, Continue}
-use Rattle.mb_model.specs.Fitting.{Fits}
 use Rattle.mb_model.specs.Writing.{Row, Does, ◌>>=◌, give, answer, pass, value_in, flag_in, property_in, keys_in, perform, unless_type_error}
 use Rattle.mb_model.specs.Objects.Rules as rule
 use Rattle.mb_model.specs.Objects.Proxies.{judge, read_extensible, read_own, prototype_extensible, prototype_said, set_prototype_extensible, set_prototype_said, extensible_said, prevent_said, absent_read, absent_said, has_said, delete_said}
 use Rattle.mb_model.specs.Trace.Answers.{is_pass}
-use Rattle.mb_model.proofs.Kept.Words.{Kept, Along, Holds, Gets, along-stays, along-on, gets-fail}
+use Rattle.mb_model.proofs.Kept.Words.{Kept, Along, Fitted, Holds, Gets, along-stays, along-on, gets-fail}
 use Rattle.mb_growth.specs.Answered.{EntryPasses}
 use Rattle.mb_growth.proofs.Seen.{seen-at}
 use Rattle.mb_growth.proofs.Values.{value-sound}
@@ -52,11 +51,11 @@ passed kept b g Break k p h = (p, kept.ended b g Break tt p.1)
 passed kept b g Continue k p h = (p, kept.ended b g Continue tt p.1)
 
 -- what is known of a task is known of its answer
-pub gets-answer : (kept : Kept) (g : Graph) (t : Task) → Fits t g
+pub gets-answer : (kept : Kept) (g : Graph) (t : Task) → Fitted kept t g
     → Gets kept (λ a h. kept.known t g (Normal a) h) g (answer t)
 gets-answer kept g t fit k b p h = (
   p,
-  (λ c. fit, λ c. absurd c),
+  fit,
   λ o s q known.
       passed kept b s o k (along-on kept b g s p q)
       (λ a e. h a s q (subst (λ (x : Outcome). kept.known t g x s) e known)),
@@ -111,7 +110,7 @@ module _ (p : ℕ) (k : Val) (m : Method) (b : Graph) where
   gets-extensible s g u t f reach =
       gets-bind (answering p k m) (λ a h. TaskKnown (perform p IsExtensible k) g (Normal a) h)
       (λ e h. (e ≡ u.extensible) × Frozen s h) g (answer (perform p IsExtensible k)) (λ a. give (flag_in a))
-      (gets-answer (answering p k m) g (perform p IsExtensible k) tt)
+      (gets-answer (answering p k m) g (perform p IsExtensible k) (λ _. tt, λ c. absurd c))
       (λ a h q known.
       let r = (known u (still-there k s g u t f) t.1 tt reach.0.0).1 a refl in
       gets-give (answering p k m) (λ e i. (e ≡ u.extensible) × Frozen s i) h (flag_in a)
@@ -122,7 +121,7 @@ module _ (p : ℕ) (k : Val) (m : Method) (b : Graph) where
   gets-own s g u i t f reach =
       gets-bind (answering p k m) (λ a h. TaskKnown (perform p (GetOwnProperty i) k) g (Normal a) h)
       (λ x h. (x ≡ shown_property s p u i) × Frozen s h) g (answer (perform p (GetOwnProperty i) k)) (λ a. give (property_in a))
-      (gets-answer (answering p k m) g (perform p (GetOwnProperty i) k) tt)
+      (gets-answer (answering p k m) g (perform p (GetOwnProperty i) k) (λ _. tt, λ c. absurd c))
       (λ a h q known.
       let r = (known u (still-there k s g u t f) t.1 tt reach.0.0).1 a refl in
       gets-give (answering p k m) (λ x j. (x ≡ shown_property s p u i) × Frozen s j) h (property_in a)
@@ -134,7 +133,7 @@ module _ (p : ℕ) (k : Val) (m : Method) (b : Graph) where
   gets-above s g u t f reach =
       gets-bind (answering p k m) (λ a h. TaskKnown (perform p GetPrototypeOf k) g (Normal a) h)
       (λ x h. (x ≡ u.prototype) × Frozen s h) g (answer (perform p GetPrototypeOf k)) (λ a. give (value_in a))
-      (gets-answer (answering p k m) g (perform p GetPrototypeOf k) tt)
+      (gets-answer (answering p k m) g (perform p GetPrototypeOf k) (λ _. tt, λ c. absurd c))
       (λ a h q known.
       let r = (known u (still-there k s g u t f) t.1 tt reach.0.0).1 a refl in
       gets-give (answering p k m) (λ x i. (x ≡ u.prototype) × Frozen s i) h (value_in a)
@@ -146,7 +145,7 @@ module _ (p : ℕ) (k : Val) (m : Method) (b : Graph) where
   gets-listed s g u t f reach =
       gets-bind (answering p k m) (λ a h. TaskKnown (perform p OwnPropertyKeys k) g (Normal a) h)
       (λ ks h. (ks ≡ shown_keys s p u) × Frozen s h) g (answer (perform p OwnPropertyKeys k)) (λ a. give (keys_in a))
-      (gets-answer (answering p k m) g (perform p OwnPropertyKeys k) tt)
+      (gets-answer (answering p k m) g (perform p OwnPropertyKeys k) (λ _. tt, λ c. absurd c))
       (λ a h q known.
       let r = (known u (still-there k s g u t f) t.1 tt reach.0.0).1 a refl in
       gets-give (answering p k m) (λ ks i. (ks ≡ shown_keys s p u) × Frozen s i) h (keys_in a)

@@ -5,11 +5,11 @@ use Rattle.mb_world.specs.Value.{Val, Undefined, Null, Truth, Whole, Text, Symbo
 use Rattle.mb_world.specs.Graph.{Graph, Thing, Kind, Plain, Array, Function, Standard, Fault, Proxy, Gone, Revoker, Collection, Job, Script, Call as CallJob}
 use Rattle.mb_world.specs.Objects.{thing_at, thing_is, with_thing, is_proxy_kind}
 use Rattle.mb_model.specs.Engine.{Gives, Spent, state_of}
-use Rattle.mb_model.specs.Meaning.{Ends}
+use Rattle.mb_model.specs.Meaning.{Ends, Means}
 use Rattle.mb_model.specs.Writing.{with_object}
 use Rattle.mb_model.specs.Operations.Makings.{array_thing}
 use Rattle.mb_model.specs.BuiltIns.ProxyMaking.{may_be_target}
-use Rattle.mb_model.specs.Story.{desk, job_ends}
+use Rattle.mb_model.specs.Story.{desk, job_ends, first_graph}
 use Rattle.mb_model.proofs.Kept.Changes.{has_target, is_other, IsNew, NewArray, NewOther, IsMade, Apart, ProxyOf, Change, ProxyStays, proxy-stays}
 use Rattle.mb_model.proofs.Kept.Words.{Kept}
 use Rattle.mb_model.proofs.Kept.Rows.{IsPlain, EndHolds, given-holds, means-holds}
@@ -224,14 +224,14 @@ stay-keep g h p n t u target handler shape at there kind =
 pub tasks-keep-targets : TasksKeepTargets
 tasks-keep-targets task graph fuel has =
     let p = means-goes targeting plainly task graph fuel (λ c. absurd c, λ c. absurd c) (has, stays-same graph) in
-    (p.0, stay-keep graph _ p.1)
+    (p.0, stay-keep graph (state_of (Means task graph fuel)) p.1)
 
 -- ---- along a whole run
 
 pub first-has-targets : FirstHasTargets
 first-has-targets programs rules zero t target handler shape at kind =
     let e : desk ≡ t = cc in
-    aimless _ t.kind target handler shape (ap (λ (x : Thing). has_target x.kind) (sym e)) kind
+    aimless (first_graph programs rules) t.kind target handler shape (ap (λ (x : Thing). has_target x.kind) (sym e)) kind
 first-has-targets programs rules (suc n) t target handler shape at kind = absurd (let bad : None ≡ Some t = at in cc)
 
 end-has : (b : Graph) (r : Ends) → EndHolds targeting b r → HasTargets (state_of r)

@@ -3,4 +3,5 @@ pub mod Later
 pub mod Targets
 pub mod Laws
 pub mod Answered
+pub mod Lawful
 pub mod Needs

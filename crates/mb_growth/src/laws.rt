@@ -1,5 +1,6 @@
 // The laws of single changes, and of graphs.
 ghost use Rattle.mb_growth.specs.Answered.{OrdinaryEntriesPass, ProxyEntriesPass, ChecksTell};
+ghost use Rattle.mb_growth.specs.Lawful.{TasksKeepPromises, FirstKeepsPromises, TurnsKeepPromises, LettersKeepPromises, RunsKeepPromises, RunsAreLawful};
 ghost use Rattle.mb_growth.specs.Needs.{WalksMustFit, DefinitionsMustFit};
 ghost use Rattle.mb_growth.specs.Targets.{TasksKeepTargets, FirstHasTargets, TurnsKeepTargets, LettersKeepTargets, RunsHaveTargets};
 ghost use Rattle.mb_growth.specs.Laws.{DefinitionsMove, ElementsMove, DeletionsMove, PrototypesMove, ClosingMoves, StaysLater, GoesOnLater, OneMoves, OneIsMade, SeesByRules, EachSideSees, TasksEvolve, SidesSeeTasksEvolve, FirstIsFormed, TurnsEvolve, LettersEvolve, RunsEvolve};
@@ -42,8 +43,8 @@ pub fn runs_evolve()
     ensures whole { RunsEvolve }
 {}
 
-/// The target of every script-made Proxy is there and is no script-made Proxy: no task makes another, whatever it is and
-/// however it ends. A Proxy keeps its target until it is gone, and nothing else gets one.
+/// The target of every script-made Proxy is there and is no script-made Proxy: no task makes another, whatever it is
+/// and however it ends. A Proxy keeps its target until it is gone, and nothing else gets one.
 pub fn targets_are_no_proxies()
     ensures tasks { TasksKeepTargets }
     ensures first { FirstHasTargets }
@@ -75,4 +76,16 @@ pub fn tasks_must_fit()
 /// some moment from its begin to its end: as the checks read it, or, without a trap, at that of the target's method.
 pub fn proxy_entries_pass()
     ensures { ProxyEntriesPass }
+{}
+
+/// The trace of every run is lawful: no entry contradicts what its side was told of the object before it began, and all
+/// that was told holds of what the side sees of the object, for as long as it sees it. So it is along each task that
+/// fits and makes entries by its own view only.
+pub fn runs_are_lawful()
+    ensures tasks { TasksKeepPromises }
+    ensures first { FirstKeepsPromises }
+    ensures turns { TurnsKeepPromises }
+    ensures letters { LettersKeepPromises }
+    ensures promises { RunsKeepPromises }
+    ensures lawful { RunsAreLawful }
 {}

@@ -1,0 +1,404 @@
+-- Along the meaning, and along runs, the trace is lawful.
+use Rattle.std.proofs.Common.{◌≡◌, ℕ, zero, suc, ◌<◌, ◌≤◌, Bool, true, false, ◌&&◌, not, nat_lt, List, [], ◌∷◌, ◌++◌, length, Option, None, Some, slice_get, refl, sym, ap, ◌∙◌, subst, if◌then◌else◌, option_map, append-nil, append_assoc, arith}
+use Rattle.std.proofs.lemmas.Bool.{ltb-true}
+use Rattle.std.proofs.lemmas.Bool.Decides.{nat_tests}
+use Rattle.mb_view.specs.Entries.{Silent}
+use Rattle.mb_view.proofs.Lawfulness.{and-both}
+use Rattle.mb_world.specs.declared.cell.Shape.{Shape}
+use Rattle.mb_world.specs.Value.{Val, Undefined, Null, Truth, Whole, Text, Symbol, Object, BuiltIn, number_of}
+use Rattle.mb_world.specs.Graph.{Graph, Thing, Kind, Proxy, Gone, Entry, Scope, Item, Job, Script, Call as CallJob, Program, Rule}
+use Rattle.mb_world.specs.Intrinsics.{Intrinsic, intrinsic}
+use Rattle.mb_world.specs.Standard.{standard}
+use Rattle.mb_world.specs.Objects.{thing_at, with_thing, is_proxy_kind}
+use Rattle.mb_world.specs.View.{is_foreign, is_cut, owner_or}
+use Rattle.mb_model.specs.Engine.{Gives, Spent, by, meaning, and_then, exec, given, ending, ends_with, state_of}
+use Rattle.mb_model.specs.Task.{Task, Evaluate, Loop, Chain, Walk, Perform, Enter, Run, Access, Visit, Answer, Method, Request, Outcome, Throw}
+use Rattle.mb_model.specs.Fitting.{FitsMethod, Fits, SeesItself}
+use Rattle.mb_model.specs.Writing.{Row, ◌>>=◌, unless_type_error, with_object}
+use Rattle.mb_model.specs.BuiltIns.Basics.{with_job}
+use Rattle.mb_model.specs.BuiltIns.Collections.{access_row}
+use Rattle.mb_model.specs.Trace.Entries.{entries, entry_of, with_entry, is_foreign_at, makes_entry, method_entry, access_entry, method_noted, access_noted}
+use Rattle.mb_model.specs.Trace.Lawful.{deed_of}
+use Rattle.mb_model.specs.Meaning.{row, finished, entering, entries_made, perform_kind, perform_thing, perform_row, Ends, Means}
+use Rattle.mb_model.specs.Story.{job_ends, with_uncaught, first_graph}
+use Rattle.mb_model.proofs.Engine.{bit, Agree, exec_same, exec-ending, given-row, given-falls}
+use Rattle.mb_model.proofs.Kept.Changes.{IsMade, Change}
+use Rattle.mb_model.proofs.Kept.Words.{Kept, Along, Fitted, Holds, beside-objects}
+use Rattle.mb_model.proofs.Kept.Rows.{OwesNothing, plain_row, plain-holds, EndKnown, EndOwed, DoesSo, exec-owed}
+use Rattle.mb_growth.specs.Later.{AreFormed, EachEvolves}
+use Rattle.mb_growth.specs.Answered.{EndPasses, EndBetween}
+use Rattle.mb_growth.specs.Targets.{HasTargets}
+use Rattle.mb_growth.specs.Lawful.{KeepsPromises, TasksKeepPromises, FirstKeepsPromises, TurnsKeepPromises, LettersKeepPromises, RunsKeepPromises, RunsAreLawful}
+use Rattle.mb_growth.proofs.Graphs.{stays-later, goes-on-later, one-is-made}
+use Rattle.mb_growth.proofs.Made.{made-formed}
+use Rattle.mb_growth.proofs.Runs.{Grows, change-grows}
+use Rattle.mb_growth.proofs.Turns.{first-is-formed}
+use Rattle.mb_growth.proofs.Ends.{RowEnds, TaskEnds, ends-entering, means-ends}
+use Rattle.mb_growth.proofs.BuiltIns.{ordinary-entries-pass}
+use Rattle.mb_growth.proofs.Reading.{with_thing-rules}
+use Rattle.mb_growth.proofs.Proxies.{proxy-entries-pass}
+use Rattle.mb_growth.proofs.Throughout.{Lasting, turn-good, letter-good, run-good}
+use Rattle.mb_growth.proofs.Targets.{Aims, stays-same, stays-on, moved-aims, made-aims, first-has-targets}
+use Rattle.mb_growth.proofs.Entered.{quiet-log, entered-log}
+use Rattle.mb_growth.proofs.Promised.{Onward, promises-on, IsTrue, promises-more}
+use Rattle.mb_growth.proofs.Truly.{silent-true, throw-silent, entry_made, Extends, began-within, true-between, ordinary-true}
+
+-- ---- from an earlier graph to a later one
+
+onward-same : (g : Graph) → Onward g g
+onward-same g = record { evolves = stays-later g; rules = refl; stays = stays-same g }
+
+onward-on : (f g h : Graph) → Onward f g → Onward g h → Onward f h
+onward-on f g h p q = record {
+  evolves = goes-on-later f g h p.evolves q.evolves;
+  rules = q.rules ∙ p.rules;
+  stays = stays-on f g h p.stays q.stays;
+}
+
+extends-same : (g h : Graph) → entries h.log ≡ entries g.log → Extends g h
+extends-same g h same = ([], same ∙ sym (append-nil (entries g.log)))
+
+extends-on : (f g h : Graph) → Extends f g → Extends g h → Extends f h
+extends-on f g h p q = (
+  p.0 ++ q.0,
+  q.1 ∙ ap (λ (es : List Entry). es ++ q.0) p.1 ∙ append_assoc (entries f.log) p.0 q.0,
+)
+
+-- the promises of the later one are kept
+abbrev pub Goes : Graph → Graph → Type 0
+Goes f g = KeepsPromises g × (Onward f g × Extends f g)
+
+goes-same : (g : Graph) → KeepsPromises g → Goes g g
+goes-same g keeps = (keeps, (onward-same g, extends-same g g refl))
+
+goes-on : (f g h : Graph) → Goes f g → Goes g h → Goes f h
+goes-on f g h p q = (q.0, (onward-on f g h p.1.0 q.1.0, extends-on f g h p.1.1 q.1.1))
+
+-- a change that makes no entry
+goes-step : (f g h : Graph) → Goes f g → AreFormed h × EachEvolves g h → h.rules ≡ g.rules → Aims g h
+    → entries h.log ≡ entries g.log → Goes f h
+goes-step f g h p grows rules aims same =
+    let on : Onward g h = record { evolves = grows.1; rules = rules; stays = aims.1 } in
+    goes-on f g h p (promises-on g h p.0 on same grows.0 aims.0, (on, extends-same g h same))
+
+with_thing-log : (g : Graph) (o : Val) (u : Thing) → (with_thing o u g).log ≡ g.log
+with_thing-log g o u = beside-objects (λ h. h.log ≡ g.log) g o u (λ ts. refl) refl
+
+-- an entry that is true
+goes-entered : (f g : Graph) (e : Entry) → Goes f g → IsTrue g e → Goes f (with_entry e g)
+goes-entered f g e p so =
+    let h : Graph = with_entry e g in
+    let on : Onward g h = record { evolves = stays-later g; rules = refl; stays = stays-same g } in
+    goes-on f g h p (promises-more g e p.0 so, (on, (e ∷ [], entered-log g.log e)))
+
+-- ---- what rows keep
+
+abbrev keeping : Kept
+keeping = record {
+  cares = Unit {0};
+  owns = Unit {0};
+  to = Goes;
+  owed = λ b o g. Unit {0};
+  ended = λ b g o abrupt h. tt;
+  known = λ t s o g. Unit {0};
+  stays = λ f g p. goes-same g p.0;
+  goes_on = goes-on;
+  made = λ f g t new p.
+      goes-step f g (with_object t g) p (one-is-made g t p.0.formed (made-formed g t new)) refl
+      (made-aims g t new p.0.targets) refl;
+  moved = λ f g o t u at by p.
+      goes-step f g (with_thing o u g) p (change-grows g o t u at by p.0.formed) (with_thing-rules g o u)
+      (moved-aims (Unit {0}) g o t u at by p.0.targets) (ap entries (with_thing-log g o u));
+  symbols = λ f g ds p.
+      goes-step f g (record g { symbols = ds }) p (p.0.formed, stays-later g) refl (p.0.targets, stays-same g) refl;
+  scopes = λ f g ss p.
+      goes-step f g (record g { scopes = ss }) p (p.0.formed, stays-later g) refl (p.0.targets, stays-same g) refl;
+  log = λ f g i none p.
+      goes-step f g (record g { log = g.log ++ (i ∷ []) }) p (p.0.formed, stays-later g) refl
+      (p.0.targets, stays-same g) (quiet-log g.log i none);
+  job = λ f g s v p.
+      goes-step f g (with_job s (CallJob v) g) p (p.0.formed, stays-later g) refl (p.0.targets, stays-same g) refl;
+}
+
+nothing-owed : OwesNothing keeping
+nothing-owed b g o p = tt
+
+-- ---- an entry is made of an object that is there
+
+no-owner : (a p : ℕ) (x : Option Intrinsic) → is_foreign_at a (option_map (standard p) x) ≡ true → ⊥
+no-owner a p None h = let bad : false ≡ true = h in cc
+no-owner a p (Some i) h = let bad : false ≡ true = h in cc
+
+object-there : (a : ℕ) (x : Option Thing) → is_foreign_at a x ≡ true → (t : Thing) × (x ≡ Some t)
+object-there a None h = absurd (let bad : false ≡ true = h in cc)
+object-there a (Some t) h = (t, refl)
+
+-- ---- the entry of a method is true
+
+-- a Proxy whose target is gone answers nothing
+abbrev Throws : Outcome → Type 0
+Throws q = (v : Val) × (q ≡ Throw v)
+
+gone-row : (a n : ℕ) (m : Method) (t : Thing) (shape : Shape) (g : Graph) (kind : Kind) → kind ≡ Gone shape → (c : Bool)
+    → RowEnds (λ q h. Throws q) ((unless_type_error a c >>= (λ _. perform_kind a a (Object n) t m kind)) finished g)
+gone-row a n m t shape g kind e true = rw e (Object (length g.objects), refl)
+gone-row a n m t shape g kind e false = (Object (length g.objects), refl)
+
+gone-throws : (a n : ℕ) (m : Method) (t : Thing) (shape : Shape) (g : Graph) (f : ℕ) → slice_get g.objects n ≡ Some t
+    → t.kind ≡ Gone shape → TaskEnds (λ q h. Throws q) (Means (Perform a m (Object n) a false) g f)
+gone-throws a n m t shape g f at kind =
+    means-ends (λ q h. Throws q) (Perform a m (Object n) a false) g f
+    (subst (λ (x : Option Thing). RowEnds (λ q h. Throws q) (perform_thing a a (Object n) m x finished g)) (sym at)
+    (gone-row a n m t shape g t.kind kind (not (is_cut g a t))))
+
+abbrev EndTrue : Graph → ℕ → ℕ → Method → Ends → Type 0
+EndTrue b a n m (Gives q g f) = Goes b g → IsTrue g (entry_made b a n m q)
+EndTrue b a n m (Spent g f) = Unit {0}
+
+module _ (b : Graph) (keeps : KeepsPromises b) (a n : ℕ) (m : Method) (t : Thing) (at : slice_get b.objects n ≡ Some t) (fit : FitsMethod m) where
+  proxy-end : (x : Ends) (target handler : Val) (shape : Shape) → t.kind ≡ Proxy target handler shape
+      → EndBetween (owner_or a t.owner) target m b x → EndTrue b a n m x
+  proxy-end (Gives q g f) target handler shape kind between =
+      λ goes. true-between b g keeps goes.1.0 goes.1.1 a n m q t at target handler shape kind fit between
+  proxy-end (Spent g f) target handler shape kind between = tt
+
+  ordinary-end : (x : Ends) → is_proxy_kind t.kind ≡ false → EndPasses a (Object n) m t b x → EndTrue b a n m x
+  ordinary-end (Gives q g f) ordinary passes =
+      λ goes. ordinary-true b g keeps goes.1.0 goes.1.1 a n m q t at ordinary fit passes
+  ordinary-end (Spent g f) ordinary passes = tt
+
+  gone-end : (x : Ends) → TaskEnds (λ q h. Throws q) x → EndTrue b a n m x
+  gone-end (Gives q g f) throws =
+      λ goes.
+      let there = goes.1.0.evolves n t at in
+      silent-true g (entry_made b a n m q)
+      (ap (λ (o : Outcome). (deed_of (entry_made b a n m o)).deed) throws.1 ∙ throw-silent m throws.0)
+      (began-within b g goes.1.1) (there.0, there.1)
+  gone-end (Spent g f) throws = tt
+
+  kind-end : (f : ℕ) (kind : Kind) → t.kind ≡ kind → EndTrue b a n m (Means (Perform a m (Object n) a false) b f)
+  kind-end f (Proxy target handler shape) e =
+      proxy-end (Means (Perform a m (Object n) a false) b f) target handler shape e
+      (proxy-entries-pass a a n target handler shape m false t b f at e keeps.targets fit keeps.formed)
+  kind-end f (Gone shape) e =
+      gone-end (Means (Perform a m (Object n) a false) b f) (gone-throws a n m t shape b f at e)
+  kind-end f _ e =
+      let ordinary : is_proxy_kind t.kind ≡ false = ap is_proxy_kind e in
+      ordinary-end (Means (Perform a m (Object n) a false) b f) ordinary
+      (ordinary-entries-pass a a (Object n) m false t b f at ordinary fit keeps.formed)
+
+-- ---- the meaning, by less fuel
+
+abbrev DoesBelow : ℕ → Type 0
+DoesBelow n = (t : Task) (s : Graph) (f : ℕ) → f < n → Fitted keeping t s → Along keeping s s → EndKnown keeping t s (given row t s f)
+
+-- tasks that are done with less than this fuel
+abbrev below : ℕ → Task → Graph → ℕ → Ends
+below n t s f = if nat_lt f n then given row t s f else Spent s f
+
+below-does : (n : ℕ) → DoesBelow n → DoesSo keeping (below n)
+below-does n does t s f fit a = by (nat_lt f n) refl
+  where
+    by : (c : Bool) → nat_lt f n ≡ c → EndKnown keeping t s (if c then given row t s f else Spent s f)
+    by true e = does t s f (ltb-true f n e) fit a
+    by false e = a
+
+below-agrees : (n : ℕ) → Agree n (given row) (below n)
+below-agrees n t s f l = let e : nat_lt f n ≡ true = grind (arith, nat_tests) in rw e refl
+
+row-goes : (n : ℕ) → DoesBelow n → (b : Graph) (p : Row) (f : ℕ) → f ≤ n → Holds keeping b p
+    → EndOwed keeping b (exec (by (given row)) false p f)
+row-goes n does b p f l h =
+    subst (EndOwed keeping b)
+    (sym (exec_same (given row) (below n) n (given-falls row) (below-agrees n) false p f (omega (arith, l))))
+    (exec-owed keeping (below n) (below-does n does) b false p f h)
+
+-- a row that may make an entry where it ends
+entered-goes : (b : Graph) (e : Outcome → Entry) (x : Ends)
+    → ((q : Outcome) (g : Graph) (f : ℕ) → x ≡ Gives q g f → Goes b g → IsTrue g (e q)) → EndOwed keeping b x
+    → EndOwed keeping b (and_then x (ends_with (λ q g. with_entry (e q) g)))
+entered-goes b e (Gives q g f) so h = ((λ a x. h.0.0 a x, goes-entered b g (e q) h.0.1 (so q g f refl h.0.1)), tt)
+entered-goes b e (Spent g f) so h = h
+
+end-true : (b : Graph) (a n : ℕ) (m : Method) (x : Ends) → EndTrue b a n m x → (q : Outcome) (g : Graph) (f : ℕ)
+    → x ≡ Gives q g f → Goes b g → IsTrue g (entry_made b a n m q)
+end-true b a n m x h q g f e goes = (subst (EndTrue b a n m) e h) goes
+
+perform-true : (s : Graph) → KeepsPromises s → (a : ℕ) (m : Method) (o : Val) (enters : Bool) (f : ℕ)
+    → makes_entry enters a o s ≡ true → FitsMethod m → (q : Outcome) (g : Graph) (left : ℕ)
+    → given row (Perform a m o a false) s f ≡ Gives q g left → Goes s g
+    → IsTrue g (method_entry (entries_made s) a o m q)
+perform-true s keeps a m (Object n) enters f made fit q g left e goes =
+    let there = object-there a (slice_get s.objects n) (and-both enters (is_foreign_at a (slice_get s.objects n)) made).1 in
+    end-true s a n m (Means (Perform a m (Object n) a false) s (suc f))
+    (kind-end s keeps a n m there.0 there.1 fit (suc f) there.0.kind refl) q g left e goes
+perform-true s keeps a m (BuiltIn p) enters f made fit q g left e goes =
+    absurd (no-owner a p (intrinsic p) (and-both enters (is_foreign_at a (thing_at s (BuiltIn p))) made).1)
+perform-true s keeps a m Undefined enters f made fit q g left e goes =
+    absurd (let bad : false ≡ true = (and-both enters false made).1 in cc)
+perform-true s keeps a m Null enters f made fit q g left e goes =
+    absurd (let bad : false ≡ true = (and-both enters false made).1 in cc)
+perform-true s keeps a m (Truth b) enters f made fit q g left e goes =
+    absurd (let bad : false ≡ true = (and-both enters false made).1 in cc)
+perform-true s keeps a m (Whole z) enters f made fit q g left e goes =
+    absurd (let bad : false ≡ true = (and-both enters false made).1 in cc)
+perform-true s keeps a m (Text x) enters f made fit q g left e goes =
+    absurd (let bad : false ≡ true = (and-both enters false made).1 in cc)
+perform-true s keeps a m (Symbol x) enters f made fit q g left e goes =
+    absurd (let bad : false ≡ true = (and-both enters false made).1 in cc)
+
+perform-entered : (a : ℕ) (m : Method) (o : Val) (v : ℕ) (enters : Bool) (s : Graph) (f : ℕ) → KeepsPromises s → FitsMethod m
+    → (enters ≡ true → v ≡ a) → EndOwed keeping s (exec (meaning row) false (perform_row a v o m finished s) f)
+    → (c : Bool) → makes_entry enters a o s ≡ c
+    → EndOwed keeping s
+    (exec (meaning row) false (entering c (method_noted (entries_made s) a o m) (perform_row a v o m finished s)) f)
+perform-entered a m o v enters s f keeps fit own owed false made = owed
+perform-entered a m o v enters s f keeps fit own owed true made =
+    let p : Row = perform_row a v o m finished s in
+    let x : Ends = exec (meaning row) false p f in
+    let itself : v ≡ a = own (and-both enters (is_foreign_at a (thing_at s o)) made).0 in
+    let given-x : given row (Perform a m o a false) s f ≡ x =
+    given-row row (Perform a m o a false) s f
+    ∙ ap (λ (z : ℕ). exec (meaning row) false (perform_row a z o m finished s) f) (sym itself) in
+    subst (EndOwed keeping s) (sym (exec-ending (meaning row) (method_noted (entries_made s) a o m) false p f))
+    (entered-goes s (λ q. method_entry (entries_made s) a o m q) x
+    (λ q g left e goes. perform-true s keeps a m o enters f made fit q g left (given-x ∙ e) goes) owed)
+
+perform-goes : (n : ℕ) → DoesBelow n → (a : ℕ) (m : Method) (o : Val) (v : ℕ) (enters : Bool) (s : Graph) (f : ℕ) → f ≤ n
+    → Fitted keeping (Perform a m o v enters) s → Along keeping s s
+    → EndOwed keeping s (given row (Perform a m o v enters) s f)
+perform-goes n does a m o v enters s f l fit al =
+    subst (EndOwed keeping s) (sym (given-row row (Perform a m o v enters) s f))
+    (perform-entered a m o v enters s f al.1.0 (fit.0 tt) (fit.1 tt)
+    (row-goes n does s (perform_row a v o m finished s) f l
+    (plain-holds keeping nothing-owed (Perform a m o v enters) s fit al))
+    (makes_entry enters a o s) refl)
+
+-- ---- an access of a collection tells nothing
+
+access-there : (a : ℕ) (c : Val) (s g : Graph) → is_foreign_at a (thing_at s c) ≡ true → Goes s g
+    → (t : Thing) × (slice_get g.objects (number_of c) ≡ Some t)
+access-there a (Object n) s g h goes =
+    let there = object-there a (slice_get s.objects n) h in
+    let later = goes.1.0.evolves n there.0 there.1 in
+    (later.0, later.1)
+access-there a (BuiltIn p) s g h goes = absurd (no-owner a p (intrinsic p) h)
+access-there a Undefined s g h goes = absurd (let bad : false ≡ true = h in cc)
+access-there a Null s g h goes = absurd (let bad : false ≡ true = h in cc)
+access-there a (Truth b) s g h goes = absurd (let bad : false ≡ true = h in cc)
+access-there a (Whole z) s g h goes = absurd (let bad : false ≡ true = h in cc)
+access-there a (Text x) s g h goes = absurd (let bad : false ≡ true = h in cc)
+access-there a (Symbol x) s g h goes = absurd (let bad : false ≡ true = h in cc)
+
+access-entered : (a p : ℕ) (c : Val) (r : Request) (s : Graph) (f : ℕ) (x : Row) → EndOwed keeping s (exec (meaning row) false x f)
+    → (b : Bool) → is_foreign_at a (thing_at s c) ≡ b
+    → EndOwed keeping s (exec (meaning row) false (entering b (access_noted (entries_made s) a p c r) x) f)
+access-entered a p c r s f x owed false made = owed
+access-entered a p c r s f x owed true made =
+    subst (EndOwed keeping s) (sym (exec-ending (meaning row) (access_noted (entries_made s) a p c r) false x f))
+    (entered-goes s (λ q. access_entry (entries_made s) a p c r q) (exec (meaning row) false x f)
+    (λ q g left e goes.
+    silent-true g (access_entry (entries_made s) a p c r q) refl (began-within s g goes.1.1) (access-there a c s g made goes))
+    owed)
+
+access-goes : (n : ℕ) → DoesBelow n → (a p : ℕ) (c : Val) (r : Request) (s : Graph) (f : ℕ) → f ≤ n
+    → Fitted keeping (Access a p c r) s → Along keeping s s → EndOwed keeping s (given row (Access a p c r) s f)
+access-goes n does a p c r s f l fit al =
+    subst (EndOwed keeping s) (sym (given-row row (Access a p c r) s f))
+    (access-entered a p c r s f (access_row a c r finished s)
+    (row-goes n does s (access_row a c r finished s) f l
+    (plain-holds keeping nothing-owed (Access a p c r) s fit al))
+    (is_foreign_at a (thing_at s c)) refl)
+
+-- ---- each task
+
+plain-goes : (n : ℕ) → DoesBelow n → (t : Task) (s : Graph) (f : ℕ) → f ≤ n → Fitted keeping t s → Along keeping s s
+    → row t s ≡ plain_row t s → EndOwed keeping s (given row t s f)
+plain-goes n does t s f l fit al same =
+    subst (EndOwed keeping s)
+    (ap (λ (p : Row). exec (meaning row) false p f) (sym same) ∙ sym (given-row row t s f))
+    (row-goes n does s (plain_row t s) f l (plain-holds keeping nothing-owed t s fit al))
+
+task-goes : (n : ℕ) → DoesBelow n → (t : Task) (s : Graph) (f : ℕ) → f ≤ n → Fitted keeping t s → Along keeping s s
+    → EndOwed keeping s (given row t s f)
+task-goes n does (Perform a m o v enters) s f l fit al = perform-goes n does a m o v enters s f l fit al
+task-goes n does (Access a p c r) s f l fit al = access-goes n does a p c r s f l fit al
+task-goes n does (Evaluate a b c d) s f l fit al = plain-goes n does (Evaluate a b c d) s f l fit al refl
+task-goes n does (Loop a b c d) s f l fit al = plain-goes n does (Loop a b c d) s f l fit al refl
+task-goes n does (Chain a b c) s f l fit al = plain-goes n does (Chain a b c) s f l fit al refl
+task-goes n does (Walk a b c) s f l fit al = plain-goes n does (Walk a b c) s f l fit al refl
+task-goes n does (Enter a b c) s f l fit al = plain-goes n does (Enter a b c) s f l fit al refl
+task-goes n does (Run a b c d e) s f l fit al = plain-goes n does (Run a b c d e) s f l fit al refl
+task-goes n does (Visit a b c d e i) s f l fit al = plain-goes n does (Visit a b c d e i) s f l fit al refl
+
+owed-known : (t : Task) (s : Graph) (x : Ends) → EndOwed keeping s x → EndKnown keeping t s x
+owed-known t s (Gives q g f) h = h
+owed-known t s (Spent g f) h = h
+
+does-below : (n : ℕ) → DoesBelow n
+does-below zero t s f l fit al = absurd (omega (arith, l))
+does-below (suc n) t s f l fit al =
+    owed-known t s (given row t s f) (task-goes n (does-below n) t s f (omega (arith, l)) fit al)
+
+-- ---- along the meaning
+
+end-keeps : (b : Graph) (x : Ends) → EndOwed keeping b x → KeepsPromises (state_of x)
+end-keeps b (Gives q g f) h = h.0.1.0
+end-keeps b (Spent g f) h = h.1.0
+
+given-keeps : (t : Task) (s : Graph) (f : ℕ) → Fitted keeping t s → KeepsPromises s → KeepsPromises (state_of (given row t s f))
+given-keeps t s f fit keeps =
+    end-keeps s (given row t s f)
+    (task-goes f (does-below f) t s f (omega arith) fit (λ a h. h, goes-same s keeps))
+
+means-keeps : (t : Task) (s : Graph) (f : ℕ) → Fitted keeping t s → KeepsPromises s → KeepsPromises (state_of (Means t s f))
+means-keeps t s zero fit keeps = keeps
+means-keeps t s (suc f) fit keeps = given-keeps t s f fit keeps
+
+pub tasks-keep-promises : TasksKeepPromises
+tasks-keep-promises task graph fuel fit itself keeps = means-keeps task graph fuel (λ c. fit, λ c. itself) keeps
+
+-- ---- along a whole run
+
+pub first-keeps-promises : FirstKeepsPromises
+first-keeps-promises programs rules = record {
+  formed = first-is-formed programs rules;
+  targets = first-has-targets programs rules;
+  placed = λ place e at. absurd (let bad : None ≡ Some e = at in cc);
+  promises = λ s n view at. tt;
+  lawful = tt;
+}
+
+job-keeps : (s : ℕ) (j : Job) (g : Graph) (f : ℕ) → KeepsPromises g → KeepsPromises (state_of (job_ends s j g f))
+job-keeps s Script g f keeps = given-keeps _ g f (λ c. tt, λ c. tt) keeps
+job-keeps s (CallJob v) g f keeps = means-keeps _ g f (λ c. tt, λ c e. refl) keeps
+
+-- what a run does beside jobs makes no entry, and changes no object
+beside-keeps : (g h : Graph) → KeepsPromises g → AreFormed h × EachEvolves g h → h.rules ≡ g.rules → Aims g h
+    → entries h.log ≡ entries g.log → KeepsPromises h
+beside-keeps g h keeps grows rules aims same = (goes-step g g h (goes-same g keeps) grows rules aims same).0
+
+lasting : Lasting KeepsPromises
+lasting = record {
+  job = job-keeps;
+  queues = λ g qs p.
+      beside-keeps g (record g { queues = qs }) p (p.formed, stays-later g) refl (p.targets, stays-same g) refl;
+  uncaught = λ g s v p.
+      beside-keeps g (with_uncaught s v g) p (p.formed, stays-later g) refl (p.targets, stays-same g)
+      (quiet-log g.log _ refl);
+  cut = λ g p.
+      beside-keeps g (record g { revoked = true }) p (p.formed, stays-later g) refl (p.targets, stays-same g) refl;
+}
+
+pub turns-keep-promises : TurnsKeepPromises
+turns-keep-promises stage side keeps = turn-good KeepsPromises lasting stage side keeps
+
+pub letters-keep-promises : LettersKeepPromises
+letters-keep-promises stage letter keeps = letter-good KeepsPromises lasting stage letter keeps
+
+pub runs-keep-promises : RunsKeepPromises
+runs-keep-promises programs rules word fuel =
+    run-good KeepsPromises lasting programs rules word fuel (first-keeps-promises programs rules)
+
+pub runs-are-lawful : RunsAreLawful
+runs-are-lawful programs rules word fuel = (runs-keep-promises programs rules word fuel).lawful
