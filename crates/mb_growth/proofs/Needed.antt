@@ -9,14 +9,18 @@ use Rattle.mb_desc.specs.Validate.{Validate}
 use Rattle.mb_view.specs.Views.{property_of}
 use Rattle.mb_world.specs.Value.{Val, Undefined, Null, Object}
 use Rattle.mb_world.specs.Key.{PropertyKey, Named, same_key}
-use Rattle.mb_world.specs.Graph.{Graph, Thing, Plain, Property}
+use Rattle.mb_world.specs.Graph.{Graph, Thing, Plain, Proxy, Hide, Property}
 use Rattle.mb_world.specs.Objects.{new_thing, with_thing}
+use Rattle.mb_world.specs.View.{Shown}
 use Rattle.mb_model.specs.Engine.{given, state_of}
-use Rattle.mb_model.specs.Task.{Walk, Perform, DefineOwnProperty}
+use Rattle.mb_model.specs.Task.{Prop, Walk, Perform, GetOwnProperty, DefineOwnProperty, Normal}
+use Rattle.mb_model.specs.Trace.Entries.{method_entry, with_entry}
 use Rattle.mb_model.specs.Meaning.{Means}
 use Rattle.mb_growth.specs.Objects.{as_view, IsFormed}
 use Rattle.mb_growth.specs.Later.{AreFormed, EachEvolves}
-use Rattle.mb_growth.specs.Needs.{BreaksAnObject, WalksMustFit, DefinitionsMustFit}
+use Rattle.mb_growth.specs.Targets.{HasTargets}
+use Rattle.mb_growth.specs.Lawful.{KeepsPromises}
+use Rattle.mb_growth.specs.Needs.{BreaksAnObject, WalksMustFit, DefinitionsMustFit, ViewsMustFit}
 use Rattle.mb_growth.proofs.Made.{nothing-distinct}
 
 -- a graph with one object
@@ -113,3 +117,44 @@ definitions-must-fit = (
     λ each. not-loosened (subst (EachEvolves (only (holding fixed))) defined each),
   ),
 )
+
+-- ---- a view
+
+-- the key is hidden from other sides than the owner
+abbrev shy : Thing
+shy = record (holding loosened) { label = Some [] }
+
+abbrev hidden : Graph
+hidden = record (only shy) { rules = record { label = []; kind = Hide (97 ∷ []); owner = None; viewer = None } ∷ [] }
+
+-- the other side's entry tells of it
+abbrev told : Graph
+told = with_entry (method_entry 0 1 (Object 0) (GetOwnProperty key) (Normal (Prop (Some loosened)))) hidden
+
+tells : state_of (Means (Perform 1 (GetOwnProperty key) (Object 0) 0 true) hidden 1) ≡ told
+unfolding given
+tells = refl
+
+hidden-keeps : KeepsPromises hidden
+hidden-keeps = record {
+  formed = only-formed shy (record { distinct = one-distinct; array = λ a. absurd (let bad : false ≡ true = a in cc) });
+  targets = unaimed;
+  placed = λ place e at. absurd (let bad : None ≡ Some e = at in cc);
+  promises = λ s n view at. tt;
+  lawful = tt;
+}
+  where
+    unaimed : HasTargets hidden
+    unaimed zero t target handler shape at kind =
+        let e : shy ≡ t = cc in
+        absurd (let bad : Plain ≡ Proxy target handler shape = ap (λ (x : Thing). x.kind) e ∙ kind in cc)
+    unaimed (suc n) t target handler shape at kind = absurd (let bad : None ≡ Some t = at in cc)
+
+not-kept : KeepsPromises told → ⊥
+not-kept keeps =
+    let h = (keeps.promises 1 0 (Shown told 1 shy) refl).0 in
+    let bad : None ≡ Some h.0 = h.1 in
+    cc
+
+pub views-must-fit : ViewsMustFit
+views-must-fit = (hidden, key, hidden-keeps, λ keeps. not-kept (subst KeepsPromises tells keeps))

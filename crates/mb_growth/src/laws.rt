@@ -1,7 +1,7 @@
 // The laws of single changes, and of graphs.
 ghost use Rattle.mb_growth.specs.Answered.{OrdinaryEntriesPass, ProxyEntriesPass, ChecksTell};
 ghost use Rattle.mb_growth.specs.Lawful.{TasksKeepPromises, FirstKeepsPromises, TurnsKeepPromises, LettersKeepPromises, RunsKeepPromises, RunsAreLawful};
-ghost use Rattle.mb_growth.specs.Needs.{WalksMustFit, DefinitionsMustFit};
+ghost use Rattle.mb_growth.specs.Needs.{WalksMustFit, DefinitionsMustFit, ViewsMustFit};
 ghost use Rattle.mb_growth.specs.Targets.{TasksKeepTargets, FirstHasTargets, TurnsKeepTargets, LettersKeepTargets, RunsHaveTargets};
 ghost use Rattle.mb_growth.specs.Laws.{DefinitionsMove, ElementsMove, DeletionsMove, PrototypesMove, ClosingMoves, StaysLater, GoesOnLater, OneMoves, OneIsMade, SeesByRules, EachSideSees, TasksEvolve, SidesSeeTasksEvolve, FirstIsFormed, TurnsEvolve, LettersEvolve, RunsEvolve};
 
@@ -66,10 +66,12 @@ pub fn checks_tell()
 {}
 
 /// Without tasks that fit no object need evolve: a walk for an object that isn't extensible sets its prototype, and a
-/// descriptor with fields of both kinds turns a fixed accessor into a value.
+/// descriptor with fields of both kinds turns a fixed accessor into a value. Nor need promises hold: an entry by another
+/// side's view tells of a property that is hidden from its own.
 pub fn tasks_must_fit()
     ensures walks { WalksMustFit }
     ensures definitions { DefinitionsMustFit }
+    ensures views { ViewsMustFit }
 {}
 
 /// What a method of a script-made Proxy answers passes the checks against what the Proxy's owner sees of the target at
