@@ -1,5 +1,5 @@
 -- Along the meaning, and along runs, the trace is lawful.
-use Rattle.std.proofs.Common.{◌≡◌, ℕ, zero, suc, ◌<◌, ◌≤◌, Bool, true, false, ◌&&◌, not, nat_lt, List, [], ◌∷◌, ◌++◌, length, Option, None, Some, slice_get, refl, sym, ap, ◌∙◌, subst, if◌then◌else◌, option_map, append-nil, append_assoc, arith}
+use Rattle.std.proofs.Common.{◌≡◌, ◌⊎◌, inl, inr, take, ℕ, zero, suc, ◌<◌, ◌≤◌, Bool, true, false, ◌&&◌, not, nat_lt, List, [], ◌∷◌, ◌++◌, length, Option, None, Some, slice_get, refl, sym, ap, ◌∙◌, subst, if◌then◌else◌, option_map, append-nil, append_assoc, arith}
 use Rattle.std.proofs.lemmas.Bool.{ltb-true}
 use Rattle.std.proofs.lemmas.Bool.Decides.{nat_tests}
 use Rattle.mb_view.specs.Entries.{Silent}
@@ -26,9 +26,10 @@ use Rattle.mb_model.proofs.Kept.Changes.{IsMade, Change}
 use Rattle.mb_model.proofs.Kept.Words.{Kept, Along, Fitted, Holds, beside-objects}
 use Rattle.mb_model.proofs.Kept.Rows.{OwesNothing, plain_row, plain-holds, EndKnown, EndOwed, DoesSo, exec-owed}
 use Rattle.mb_growth.specs.Later.{AreFormed, EachEvolves}
-use Rattle.mb_growth.specs.Answered.{EndPasses, EndBetween}
+use Rattle.mb_growth.specs.Answered.{PassesAtMoment, EndPasses, EndBetween}
 use Rattle.mb_growth.specs.Targets.{HasTargets}
-use Rattle.mb_growth.specs.Lawful.{KeepsPromises, TasksKeepPromises, FirstKeepsPromises, TurnsKeepPromises, LettersKeepPromises, RunsKeepPromises, RunsAreLawful}
+use Rattle.mb_growth.specs.Performed.{KindPasses}
+use Rattle.mb_growth.specs.Lawful.{KeepsPromises, TasksKeepPromises, FirstKeepsPromises, TurnsKeepPromises, LettersKeepPromises, RunsKeepPromises, RunsPass, RunsAreLawful}
 use Rattle.mb_growth.proofs.Graphs.{stays-later, goes-on-later, one-is-made}
 use Rattle.mb_growth.proofs.Made.{made-formed}
 use Rattle.mb_growth.proofs.Runs.{Grows, change-grows}
@@ -39,8 +40,8 @@ use Rattle.mb_growth.proofs.Reading.{with_thing-rules}
 use Rattle.mb_growth.proofs.Proxies.{proxy-entries-pass}
 use Rattle.mb_growth.proofs.Throughout.{Lasting, turn-good, letter-good, run-good}
 use Rattle.mb_growth.proofs.Targets.{Aims, stays-same, stays-on, moved-aims, made-aims, first-has-targets}
-use Rattle.mb_growth.proofs.Entered.{quiet-log, entered-log}
-use Rattle.mb_growth.proofs.Promised.{Onward, promises-on, IsTrue, promises-more}
+use Rattle.mb_growth.proofs.Entered.{quiet-log, entered-log, take-first}
+use Rattle.mb_growth.proofs.Promised.{Onward, promises-on, IsTrue, HowMade, promises-more}
 use Rattle.mb_growth.proofs.Truly.{silent-true, throw-silent, entry_made, Extends, began-within, true-between, ordinary-true}
 
 -- ---- from an earlier graph to a later one
@@ -85,11 +86,11 @@ with_thing-log : (g : Graph) (o : Val) (u : Thing) → (with_thing o u g).log �
 with_thing-log g o u = beside-objects (λ h. h.log ≡ g.log) g o u (λ ts. refl) refl
 
 -- an entry that is true
-goes-entered : (f g : Graph) (e : Entry) → Goes f g → IsTrue g e → Goes f (with_entry e g)
-goes-entered f g e p so =
+goes-entered : (f g : Graph) (e : Entry) → Goes f g → IsTrue g e → HowMade g e → Goes f (with_entry e g)
+goes-entered f g e p so how =
     let h : Graph = with_entry e g in
     let on : Onward g h = record { evolves = stays-later g; rules = refl; stays = stays-same g } in
-    goes-on f g h p (promises-more g e p.0 so, (on, (e ∷ [], entered-log g.log e)))
+    goes-on f g h p (promises-more g e p.0 so how, (on, (e ∷ [], entered-log g.log e)))
 
 -- ---- what rows keep
 
@@ -151,41 +152,89 @@ gone-throws a n m t shape g f at kind =
     (subst (λ (x : Option Thing). RowEnds (λ q h. Throws q) (perform_thing a a (Object n) m x finished g)) (sym at)
     (gone-row a n m t shape g t.kind kind (not (is_cut g a t))))
 
-abbrev EndTrue : Graph → ℕ → ℕ → Method → Ends → Type 0
-EndTrue b a n m (Gives q g f) = Goes b g → IsTrue g (entry_made b a n m q)
-EndTrue b a n m (Spent g f) = Unit {0}
+-- what it gives passes, by the kind of the object as it began
+abbrev EndKind : Graph → ℕ → ℕ → Method → Thing → Kind → Ends → Type 0
+EndKind b a n m t kind (Gives q g f) = KindPasses a n t kind m b q g
+EndKind b a n m t kind (Spent g f) = Unit {0}
+
+module _ (b : Graph) (a n : ℕ) (m : Method) (t : Thing) where
+  proxy-kind : (x : Ends) (target handler : Val) (shape : Shape) → EndBetween (owner_or a t.owner) target m b x
+      → EndKind b a n m t (Proxy target handler shape) x
+  proxy-kind (Gives q g f) target handler shape between = between
+  proxy-kind (Spent g f) target handler shape between = tt
+
+  gone-kind : (x : Ends) (shape : Shape) → TaskEnds (λ q h. Throws q) x → EndKind b a n m t (Gone shape) x
+  gone-kind (Gives q g f) shape throws = throws
+  gone-kind (Spent g f) shape throws = tt
+
+  plain-kind : (kind : Kind) → is_proxy_kind kind ≡ false → (q : Outcome) (g : Graph) → PassesAtMoment a (Object n) m t b q g
+      → KindPasses a n t kind m b q g
+  plain-kind (Proxy target handler shape) ordinary q g passes = absurd (let bad : true ≡ false = ordinary in cc)
+  plain-kind (Gone shape) ordinary q g passes = absurd (let bad : true ≡ false = ordinary in cc)
+  plain-kind _ ordinary q g passes = passes
+
+  ordinary-kind : (x : Ends) (kind : Kind) → is_proxy_kind kind ≡ false → EndPasses a (Object n) m t b x → EndKind b a n m t kind x
+  ordinary-kind (Gives q g f) kind ordinary passes = plain-kind kind ordinary q g passes
+  ordinary-kind (Spent g f) kind ordinary passes = tt
 
 module _ (b : Graph) (keeps : KeepsPromises b) (a n : ℕ) (m : Method) (t : Thing) (at : slice_get b.objects n ≡ Some t) (fit : FitsMethod m) where
-  proxy-end : (x : Ends) (target handler : Val) (shape : Shape) → t.kind ≡ Proxy target handler shape
-      → EndBetween (owner_or a t.owner) target m b x → EndTrue b a n m x
-  proxy-end (Gives q g f) target handler shape kind between =
-      λ goes. true-between b g keeps goes.1.0 goes.1.1 a n m q t at target handler shape kind fit between
-  proxy-end (Spent g f) target handler shape kind between = tt
-
-  ordinary-end : (x : Ends) → is_proxy_kind t.kind ≡ false → EndPasses a (Object n) m t b x → EndTrue b a n m x
-  ordinary-end (Gives q g f) ordinary passes =
-      λ goes. ordinary-true b g keeps goes.1.0 goes.1.1 a n m q t at ordinary fit passes
-  ordinary-end (Spent g f) ordinary passes = tt
-
-  gone-end : (x : Ends) → TaskEnds (λ q h. Throws q) x → EndTrue b a n m x
-  gone-end (Gives q g f) throws =
-      λ goes.
-      let there = goes.1.0.evolves n t at in
-      silent-true g (entry_made b a n m q)
-      (ap (λ (o : Outcome). (deed_of (entry_made b a n m o)).deed) throws.1 ∙ throw-silent m throws.0)
-      (began-within b g goes.1.1) (there.0, there.1)
-  gone-end (Spent g f) throws = tt
-
-  kind-end : (f : ℕ) (kind : Kind) → t.kind ≡ kind → EndTrue b a n m (Means (Perform a m (Object n) a false) b f)
+  kind-end : (f : ℕ) (kind : Kind) → t.kind ≡ kind → EndKind b a n m t kind (Means (Perform a m (Object n) a false) b f)
   kind-end f (Proxy target handler shape) e =
-      proxy-end (Means (Perform a m (Object n) a false) b f) target handler shape e
+      proxy-kind b a n m t (Means (Perform a m (Object n) a false) b f) target handler shape
       (proxy-entries-pass a a n target handler shape m false t b f at e keeps.targets fit keeps.formed)
   kind-end f (Gone shape) e =
-      gone-end (Means (Perform a m (Object n) a false) b f) (gone-throws a n m t shape b f at e)
+      gone-kind b a n m t (Means (Perform a m (Object n) a false) b f) shape (gone-throws a n m t shape b f at e)
   kind-end f _ e =
       let ordinary : is_proxy_kind t.kind ≡ false = ap is_proxy_kind e in
-      ordinary-end (Means (Perform a m (Object n) a false) b f) ordinary
-      (ordinary-entries-pass a a (Object n) m false t b f at ordinary fit keeps.formed)
+      subst (λ (k : Kind). EndKind b a n m t k (Means (Perform a m (Object n) a false) b f)) e
+      (ordinary-kind b a n m t (Means (Perform a m (Object n) a false) b f) t.kind ordinary
+      (ordinary-entries-pass a a (Object n) m false t b f at ordinary fit keeps.formed))
+
+  module _ (g : Graph) (goes : Goes b g) (q : Outcome) where
+    silent-end : Throws q → IsTrue g (entry_made b a n m q)
+    silent-end throws =
+        let there = goes.1.0.evolves n t at in
+        silent-true g (entry_made b a n m q)
+        (ap (λ (o : Outcome). (deed_of (entry_made b a n m o)).deed) throws.1 ∙ throw-silent m throws.0)
+        (began-within b g goes.1.1) (there.0, there.1)
+
+    kind-true : (kind : Kind) → t.kind ≡ kind → KindPasses a n t kind m b q g → IsTrue g (entry_made b a n m q)
+    kind-true (Proxy target handler shape) e passes =
+        true-between b g keeps goes.1.0 goes.1.1 a n m q t at target handler shape e fit passes
+    kind-true (Gone shape) e passes = silent-end passes
+    kind-true _ e passes =
+        ordinary-true b g keeps goes.1.0 goes.1.1 a n m q t at (ap is_proxy_kind e) fit passes
+
+  -- what it gives, and how
+  method-made : (f : ℕ) (q : Outcome) (g : Graph) (left : ℕ) → Means (Perform a m (Object n) a false) b f ≡ Gives q g left
+      → Goes b g → IsTrue g (entry_made b a n m q) × HowMade g (entry_made b a n m q)
+  method-made f q g left gave goes =
+      let e : Entry = entry_made b a n m q in
+      let passes : KindPasses a n t t.kind m b q g = subst (EndKind b a n m t t.kind) gave (kind-end f t.kind refl) in
+      let longer : entries (with_entry e g).log ≡ entries b.log ++ (goes.1.1.0 ++ (e ∷ [])) =
+      entered-log g.log e ∙ ap (λ (es : List Entry). es ++ (e ∷ [])) goes.1.1.1
+      ∙ append_assoc (entries b.log) goes.1.1.0 (e ∷ []) in (
+        kind-true g goes q t.kind refl passes,
+        inl (record {
+          method = m;
+          outcome = q;
+          before = b;
+          fuel = f;
+          after = g;
+          left = left;
+          thing = t;
+          says = refl;
+          gave = gave;
+          began = sym (take-first (entries b.log) (goes.1.1.0 ++ (e ∷ [])))
+              ∙ ap (λ (es : List Entry). take (length (entries b.log)) es) (sym longer);
+          ended = sym (take-first (entries g.log) (e ∷ []))
+              ∙ ap (λ (es : List Entry). take (length (entries g.log)) es) (sym (entered-log g.log e));
+          evolves = goes.1.0.evolves;
+          later = stays-later g;
+          there = at;
+          passes = passes;
+        }),
+      )
 
 -- ---- the meaning, by less fuel
 
@@ -215,23 +264,20 @@ row-goes n does b p f l h =
 
 -- a row that may make an entry where it ends
 entered-goes : (b : Graph) (e : Outcome → Entry) (x : Ends)
-    → ((q : Outcome) (g : Graph) (f : ℕ) → x ≡ Gives q g f → Goes b g → IsTrue g (e q)) → EndOwed keeping b x
-    → EndOwed keeping b (and_then x (ends_with (λ q g. with_entry (e q) g)))
-entered-goes b e (Gives q g f) so h = ((λ a x. h.0.0 a x, goes-entered b g (e q) h.0.1 (so q g f refl h.0.1)), tt)
+    → ((q : Outcome) (g : Graph) (f : ℕ) → x ≡ Gives q g f → Goes b g → IsTrue g (e q) × HowMade g (e q))
+    → EndOwed keeping b x → EndOwed keeping b (and_then x (ends_with (λ q g. with_entry (e q) g)))
+entered-goes b e (Gives q g f) so h =
+    let made = so q g f refl h.0.1 in
+    ((λ a x. h.0.0 a x, goes-entered b g (e q) h.0.1 made.0 made.1), tt)
 entered-goes b e (Spent g f) so h = h
-
-end-true : (b : Graph) (a n : ℕ) (m : Method) (x : Ends) → EndTrue b a n m x → (q : Outcome) (g : Graph) (f : ℕ)
-    → x ≡ Gives q g f → Goes b g → IsTrue g (entry_made b a n m q)
-end-true b a n m x h q g f e goes = (subst (EndTrue b a n m) e h) goes
 
 perform-true : (s : Graph) → KeepsPromises s → (a : ℕ) (m : Method) (o : Val) (enters : Bool) (f : ℕ)
     → makes_entry enters a o s ≡ true → FitsMethod m → (q : Outcome) (g : Graph) (left : ℕ)
     → given row (Perform a m o a false) s f ≡ Gives q g left → Goes s g
-    → IsTrue g (method_entry (entries_made s) a o m q)
+    → IsTrue g (method_entry (entries_made s) a o m q) × HowMade g (method_entry (entries_made s) a o m q)
 perform-true s keeps a m (Object n) enters f made fit q g left e goes =
     let there = object-there a (slice_get s.objects n) (and-both enters (is_foreign_at a (slice_get s.objects n)) made).1 in
-    end-true s a n m (Means (Perform a m (Object n) a false) s (suc f))
-    (kind-end s keeps a n m there.0 there.1 fit (suc f) there.0.kind refl) q g left e goes
+    method-made s keeps a n m there.0 there.1 fit (suc f) q g left e goes
 perform-true s keeps a m (BuiltIn p) enters f made fit q g left e goes =
     absurd (no-owner a p (intrinsic p) (and-both enters (is_foreign_at a (thing_at s (BuiltIn p))) made).1)
 perform-true s keeps a m Undefined enters f made fit q g left e goes =
@@ -297,8 +343,10 @@ access-entered a p c r s f x owed false made = owed
 access-entered a p c r s f x owed true made =
     subst (EndOwed keeping s) (sym (exec-ending (meaning row) (access_noted (entries_made s) a p c r) false x f))
     (entered-goes s (λ q. access_entry (entries_made s) a p c r q) (exec (meaning row) false x f)
-    (λ q g left e goes.
-    silent-true g (access_entry (entries_made s) a p c r q) refl (began-within s g goes.1.1) (access-there a c s g made goes))
+    (λ q g left e goes. (
+      silent-true g (access_entry (entries_made s) a p c r q) refl (began-within s g goes.1.1) (access-there a c s g made goes),
+      inr (p, refl),
+    ))
     owed)
 
 access-goes : (n : ℕ) → DoesBelow n → (a p : ℕ) (c : Val) (r : Request) (s : Graph) (f : ℕ) → f ≤ n
@@ -365,6 +413,7 @@ first-keeps-promises programs rules = record {
   formed = first-is-formed programs rules;
   targets = first-has-targets programs rules;
   placed = λ place e at. absurd (let bad : None ≡ Some e = at in cc);
+  performed = λ place e at. absurd (let bad : None ≡ Some e = at in cc);
   promises = λ s n view at. tt;
   lawful = tt;
 }
@@ -402,3 +451,6 @@ runs-keep-promises programs rules word fuel =
 
 pub runs-are-lawful : RunsAreLawful
 runs-are-lawful programs rules word fuel = (runs-keep-promises programs rules word fuel).lawful
+
+pub runs-pass : RunsPass
+runs-pass programs rules word fuel = (runs-keep-promises programs rules word fuel).performed

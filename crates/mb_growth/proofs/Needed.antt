@@ -140,6 +140,7 @@ hidden-keeps = record {
   formed = only-formed shy (record { distinct = one-distinct; array = λ a. absurd (let bad : false ≡ true = a in cc) });
   targets = unaimed;
   placed = λ place e at. absurd (let bad : None ≡ Some e = at in cc);
+  performed = λ place e at. absurd (let bad : None ≡ Some e = at in cc);
   promises = λ s n view at. tt;
   lawful = tt;
 }

@@ -1,7 +1,8 @@
 -- What is promised of objects stays so as they evolve, and with one entry more.
-use Rattle.std.proofs.Common.{◌≡◌, ℕ, zero, suc, ◌≤◌, ◌<◌, Bool, true, false, List, [], ◌∷◌, ◌++◌, map, take, length, Option, None, Some, slice_get, refl, sym, ap, ◌∙◌, subst, if◌then◌else◌, option_map, arith}
+use Rattle.std.proofs.Common.{◌≡◌, ◌⊎◌, inl, inr, ℕ, zero, suc, ◌≤◌, ◌<◌, Bool, true, false, List, [], ◌∷◌, ◌++◌, map, take, length, Option, None, Some, slice_get, refl, sym, ap, ◌∙◌, subst, if◌then◌else◌, option_map, arith}
 use Rattle.std.specs.List.{AllByRecursion}
-use Rattle.std.proofs.lemmas.Option.{same_Some}
+use Rattle.std.proofs.lemmas.List.{take-append-le}
+use Rattle.std.proofs.lemmas.Option.{same_Some, slice_get_within}
 use Rattle.mb_desc.specs.declared.descriptor.Full.{Full}
 use Rattle.mb_desc.specs.Descriptors.{is_configurable}
 use Rattle.mb_desc.specs.View.{View}
@@ -24,9 +25,11 @@ use Rattle.mb_model.proofs.Kept.Changes.{ProxyStays, has_target}
 use Rattle.mb_growth.specs.Objects.{as_view, rule_of}
 use Rattle.mb_growth.specs.Later.{IsLater, AreFormed, EachEvolves}
 use Rattle.mb_growth.specs.Targets.{HasTargets}
+use Rattle.mb_growth.specs.Performed.{IsOfMethod, IsOfAccess, ArePerformed}
 use Rattle.mb_growth.specs.Lawful.{ArePlaced, PromisesHold, KeepsPromises}
 use Rattle.mb_growth.proofs.Values.{key-sound, key-refl, value-sound, value-refl}
 use Rattle.mb_growth.proofs.Steps.{later-refl}
+use Rattle.mb_growth.proofs.Graphs.{goes-on-later}
 use Rattle.mb_growth.proofs.Sides.{sees-by-rules, each-side-sees}
 use Rattle.mb_growth.proofs.Seen.{seen-at}
 use Rattle.mb_growth.proofs.Targets.{Stay}
@@ -153,6 +156,29 @@ module _ (f g : Graph) (keeps : KeepsPromises f) (on : Onward f g) (same : entri
       let l = on.evolves e.object k.1.0 k.1.1 in
       (k.0, (l.0, l.1))
 
+  on-performed : ArePerformed g
+  on-performed place e at = by (keeps.performed place e (ap (λ (es : List Entry). slice_get es place) (sym same) ∙ at))
+    where
+      by : IsOfMethod f place e ⊎ IsOfAccess e → IsOfMethod g place e ⊎ IsOfAccess e
+      by (inl k) = inl (record {
+        method = k.method;
+        outcome = k.outcome;
+        before = k.before;
+        fuel = k.fuel;
+        after = k.after;
+        left = k.left;
+        thing = k.thing;
+        says = k.says;
+        gave = k.gave;
+        began = k.began ∙ ap (λ (es : List Entry). take e.began es) (sym same);
+        ended = k.ended ∙ ap (λ (es : List Entry). take place es) (sym same);
+        evolves = k.evolves;
+        later = goes-on-later k.after f g k.later on.evolves;
+        there = k.there;
+        passes = k.passes;
+      })
+      by (inr p) = inr p
+
   on-new : (s n : ℕ) → slice_get f.objects n ≡ None → Told (deeds f) s n ≡ []
   on-new s n gone =
       told-nothing (deeds f) (deeds f) s n
@@ -183,6 +209,7 @@ module _ (f g : Graph) (keeps : KeepsPromises f) (on : Onward f g) (same : entri
     formed = formed;
     targets = targets;
     placed = on-placed;
+    performed = on-performed;
     promises = on-promises;
     lawful = subst Lawful (sym same) keeps.lawful;
   }
@@ -200,7 +227,11 @@ pub record IsTrue (g : Graph) (e : Entry) : Type 0 where
   pub closed : (view : View PropertyKey Val) → ViewOf g e.side (Object e.object) ≡ Some view
       → closed_by e.side e.object (take e.began (deeds g)) ≡ true → AllHold view (tells_of_closed (deed_of e).deed)
 
-module _ (g : Graph) (e : Entry) (keeps : KeepsPromises g) (so : IsTrue g e) where
+-- how it was made
+abbrev pub HowMade : Graph → Entry → Type 0
+HowMade g e = IsOfMethod (with_entry e g) (length (entries g.log)) e ⊎ IsOfAccess e
+
+module _ (g : Graph) (e : Entry) (keeps : KeepsPromises g) (so : IsTrue g e) (how : HowMade g e) where
   deeds-more : deeds (with_entry e g) ≡ deeds g ++ (deed_of e ∷ [])
   deeds-more = ap (map deed_of) (entered-log g.log e) ∙ deeds-append (entries g.log) (e ∷ [])
 
@@ -216,6 +247,44 @@ module _ (g : Graph) (e : Entry) (keeps : KeepsPromises g) (so : IsTrue g e) whe
   more-placed place x at =
       append-got (entries g.log) e place x (ap (λ (es : List Entry). slice_get es place) (sym (entered-log g.log e)) ∙ at)
       (λ n y. (y.began ≤ n) × ((t : Thing) × (slice_get g.objects y.object ≡ Some t))) keeps.placed (so.began, so.there)
+
+  -- the first entries are those of before
+  take-more : (n : ℕ) → n ≤ length (entries g.log) → take n (entries g.log) ≡ take n (entries (with_entry e g).log)
+  take-more n within =
+      sym (take-append-le n (entries g.log) (e ∷ []) within)
+      ∙ ap (λ (es : List Entry). take n es) (sym (entered-log g.log e))
+
+  still-performed : (place : ℕ) (x : Entry) → slice_get (entries g.log) place ≡ Some x
+      → IsOfMethod (with_entry e g) place x ⊎ IsOfAccess x
+  still-performed place x at = by (keeps.performed place x at)
+    where
+      by : IsOfMethod g place x ⊎ IsOfAccess x → IsOfMethod (with_entry e g) place x ⊎ IsOfAccess x
+      by (inl k) =
+          let within : place < length (entries g.log) = slice_get_within (entries g.log) place x at in
+          let first : x.began ≤ place = (keeps.placed place x at).0 in
+          inl (record {
+            method = k.method;
+            outcome = k.outcome;
+            before = k.before;
+            fuel = k.fuel;
+            after = k.after;
+            left = k.left;
+            thing = k.thing;
+            says = k.says;
+            gave = k.gave;
+            began = k.began ∙ take-more x.began (omega (arith, within, first));
+            ended = k.ended ∙ take-more place (omega (arith, within));
+            evolves = k.evolves;
+            later = k.later;
+            there = k.there;
+            passes = k.passes;
+          })
+      by (inr p) = inr p
+
+  more-performed : ArePerformed (with_entry e g)
+  more-performed place x at =
+      append-got (entries g.log) e place x (ap (λ (es : List Entry). slice_get es place) (sym (entered-log g.log e)) ∙ at)
+      (λ n y. IsOfMethod (with_entry e g) n y ⊎ IsOfAccess y) still-performed how
 
   own-told : (view : View PropertyKey Val) → ViewOf g e.side (Object e.object) ≡ Some view
       → AllHold view (told_by (deeds g) (deed_of e))
@@ -255,6 +324,7 @@ module _ (g : Graph) (e : Entry) (keeps : KeepsPromises g) (so : IsTrue g e) whe
     formed = keeps.formed;
     targets = keeps.targets;
     placed = more-placed;
+    performed = more-performed;
     promises = more-promises;
     lawful = more-lawful;
   }

@@ -17,6 +17,7 @@ use Rattle.mb_model.specs.Trace.Lawful.{deed_of, Lawful}
 use Rattle.mb_model.specs.Story.{Stage, Letter, one_turn, one_letter, first_graph, Story}
 use Rattle.mb_growth.specs.Later.{AreFormed}
 use Rattle.mb_growth.specs.Targets.{HasTargets}
+use Rattle.mb_growth.specs.Performed.{ArePerformed}
 
 -- an entry began when no more entries were complete than stand before it, and its object is there
 abbrev pub ArePlaced : Graph → Type 0
@@ -28,11 +29,12 @@ abbrev pub PromisesHold : Graph → Type 0
 PromisesHold g = (s n : ℕ) (view : View PropertyKey Val) → ViewOf g s (Object n) ≡ Some view
     → AllByRecursion (λ fact. Holds same_key fact view) (Told (map deed_of (entries g.log)) s n)
 
--- the trace is lawful, and its promises hold
+-- each entry's answer passed, the trace is lawful, and its promises hold
 pub record KeepsPromises (g : Graph) : Type 0 where
   pub formed : AreFormed g
   pub targets : HasTargets g
   pub placed : ArePlaced g
+  pub performed : ArePerformed g
   pub promises : PromisesHold g
   pub lawful : Lawful (entries g.log)
 
@@ -56,6 +58,11 @@ LettersKeepPromises = (stage : Stage) (letter : Letter) → KeepsPromises stage.
 abbrev pub RunsKeepPromises : Type 0
 RunsKeepPromises = (programs : List Program) (rules : List Rule) (word : List Letter) (fuel : ℕ)
     → KeepsPromises (Story programs rules word fuel).graph
+
+-- what each entry of a run answers passed at its moment
+abbrev pub RunsPass : Type 0
+RunsPass = (programs : List Program) (rules : List Rule) (word : List Letter) (fuel : ℕ)
+    → ArePerformed (Story programs rules word fuel).graph
 
 -- no entry of a run contradicts what was told before it began
 abbrev pub RunsAreLawful : Type 0

@@ -1,6 +1,6 @@
 // The laws of single changes, and of graphs.
 ghost use Rattle.mb_growth.specs.Answered.{OrdinaryEntriesPass, ProxyEntriesPass, ChecksTell};
-ghost use Rattle.mb_growth.specs.Lawful.{TasksKeepPromises, FirstKeepsPromises, TurnsKeepPromises, LettersKeepPromises, RunsKeepPromises, RunsAreLawful};
+ghost use Rattle.mb_growth.specs.Lawful.{TasksKeepPromises, FirstKeepsPromises, TurnsKeepPromises, LettersKeepPromises, RunsKeepPromises, RunsPass, RunsAreLawful};
 ghost use Rattle.mb_growth.specs.Needs.{WalksMustFit, DefinitionsMustFit, ViewsMustFit};
 ghost use Rattle.mb_growth.specs.Targets.{TasksKeepTargets, FirstHasTargets, TurnsKeepTargets, LettersKeepTargets, RunsHaveTargets};
 ghost use Rattle.mb_growth.specs.Laws.{DefinitionsMove, ElementsMove, DeletionsMove, PrototypesMove, ClosingMoves, StaysLater, GoesOnLater, OneMoves, OneIsMade, SeesByRules, EachSideSees, TasksEvolve, SidesSeeTasksEvolve, FirstIsFormed, TurnsEvolve, LettersEvolve, RunsEvolve};
@@ -66,8 +66,8 @@ pub fn checks_tell()
 {}
 
 /// Without tasks that fit no object need evolve: a walk for an object that isn't extensible sets its prototype, and a
-/// descriptor with fields of both kinds turns a fixed accessor into a value. Nor need promises hold: an entry by another
-/// side's view tells of a property that is hidden from its own.
+/// descriptor with fields of both kinds turns a fixed accessor into a value. Nor need promises hold: an entry by the
+/// view of another side tells of a property that is hidden from its own.
 pub fn tasks_must_fit()
     ensures walks { WalksMustFit }
     ensures definitions { DefinitionsMustFit }
@@ -80,14 +80,15 @@ pub fn proxy_entries_pass()
     ensures { ProxyEntriesPass }
 {}
 
-/// The trace of every run is lawful: no entry contradicts what its side was told of the object before it began, and all
-/// that was told holds of what the side sees of the object, for as long as it sees it. So it is along each task that
-/// fits and makes entries by its own view only.
+/// The trace of every run is lawful: what each entry answers passed at its moment, no entry contradicts what its side
+/// was told of the object before it began, and all that was told holds of what the side sees of the object, for as long
+/// as it sees it. So it is along each task that fits and makes entries by the acting side's own view only.
 pub fn runs_are_lawful()
     ensures tasks { TasksKeepPromises }
     ensures first { FirstKeepsPromises }
     ensures turns { TurnsKeepPromises }
     ensures letters { LettersKeepPromises }
     ensures promises { RunsKeepPromises }
+    ensures pass { RunsPass }
     ensures lawful { RunsAreLawful }
 {}

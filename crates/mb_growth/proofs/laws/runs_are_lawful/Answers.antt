@@ -1,4 +1,4 @@
-use Rattle.mb_growth.proofs.Lawful.{tasks-keep-promises, first-keeps-promises, turns-keep-promises, letters-keep-promises, runs-keep-promises, runs-are-lawful}
+use Rattle.mb_growth.proofs.Lawful.{tasks-keep-promises, first-keeps-promises, turns-keep-promises, letters-keep-promises, runs-keep-promises, runs-pass, runs-are-lawful}
 use Rattle.mb_growth.proofs.laws.runs_are_lawful.Goals as goal
 
 pub returns-clause-tasks : goal.returns-clause-tasks
@@ -15,6 +15,9 @@ returns-clause-letters c stage letter keeps = letters-keep-promises stage letter
 
 pub returns-clause-promises : goal.returns-clause-promises
 returns-clause-promises c programs rules word fuel = runs-keep-promises programs rules word fuel
+
+pub returns-clause-pass : goal.returns-clause-pass
+returns-clause-pass c programs rules word fuel = runs-pass programs rules word fuel
 
 pub returns-clause-lawful : goal.returns-clause-lawful
 returns-clause-lawful c programs rules word fuel = runs-are-lawful programs rules word fuel
