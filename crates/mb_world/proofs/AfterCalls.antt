@@ -1,30 +1,21 @@
 -- What a world stands for after each call.
-use Rattle.std.proofs.Common.{◌≡◌, ℕ, zero, suc, ◌<◌, ◌≤◌, ◌+◌, List, [], ◌∷◌, ◌++◌, length, slice_get, slice_set, slice_index_or, Option, Some, None, Bool, true, false, arith, length-append, refl, sym, ◌∙◌, ap, map, option_map, take, get_or, true≢false, subst}
+use Rattle.std.proofs.Common.{◌≡◌, ℕ, zero, suc, ◌<◌, ◌+◌, List, [], ◌∷◌, ◌++◌, length, slice_get, slice_set, slice_index_or, Some, Bool, true, false, arith, refl, sym, ◌∙◌, ap, map, option_map, take, true≢false, subst}
 use Rattle.std.specs.Prelude.{All}
 use Rattle.std.specs.List.{filter}
 use Rattle.std.proofs.lemmas.List.{map-append, map-set, append-nil, length-map}
-use Rattle.std.proofs.lemmas.List.Elements.{All-head, All-tail, All-take, filter-append}
+use Rattle.std.proofs.lemmas.List.Elements.{All-take, filter-append}
 use Rattle.std.proofs.lemmas.Option.{slice_get_within, slice_get-map}
-use Rattle.mb_base.specs.declared.value.StrId.{StrId}
 use Rattle.mb_base.specs.declared.value.ObjId.{ObjId}
-use Rattle.mb_base.specs.declared.value.ScopeId.{ScopeId}
-use Rattle.mb_base.specs.declared.value.Side.{Side}
-use Rattle.mb_base.specs.declared.value.Value.{Value}
 use Rattle.mb_text.specs.Texts.{text_at, with_text}
-use Rattle.mb_world.specs.declared.cell.CellKind.{CellKind}
 use Rattle.mb_world.specs.declared.cell.Cell.{Cell}
-use Rattle.mb_world.specs.declared.scope.Scope.{Scope}
-use Rattle.mb_world.specs.declared.scope.Job.{Job}
-use Rattle.mb_world.specs.declared.entry.Entry.{Entry}
-use Rattle.mb_world.specs.declared.rule.Rule.{Rule}
 use Rattle.mb_world.specs.Graph.{Graph, Item}
 use Rattle.mb_world.specs.Value.{Object}
 use Rattle.mb_world.specs.Objects.{thing_at}
-use Rattle.mb_world.specs.Data.{Data, fresh, Script, Stand, Counted, AtPlace, Before, Hidden, cell_at, scope_at, next_if, numbers_from, kind_stand, stand, stands, is_object_cell, is_counted, is_array, obj_id, first_texts, length_units, new_cell, made, with_texts, with_symbol, with_scope, set_scope, change_scope, with_cell, set_cell, change_cell, with_queue, with_program, with_entry}
-use Rattle.mb_world.specs.Ids.{CellIn, JobIn, ScriptIn, Maybe, HasItsIds, Hold}
-use Rattle.mb_world.specs.Image.{names_of, object_in, number_at, thing_in, things_in, scope_in, job_in, program_in, Image}
+use Rattle.mb_world.specs.Data.{Data, fresh, Stand, Counted, AtPlace, Before, Hidden, cell_at, next_if, numbers_from, stand, stands, is_object_cell, is_counted, is_array, obj_id, first_texts, length_units, new_cell, with_texts, with_cell, set_cell}
+use Rattle.mb_world.specs.Ids.{JobIn, ScriptIn, Maybe, HasItsIds}
+use Rattle.mb_world.specs.Image.{names_of, object_in, number_at, thing_in, scope_in, job_in, program_in, Image}
 use Rattle.mb_world.specs.Grows.{Grows}
-use Rattle.mb_world.specs.Laws.{Becomes, same_graph, OfText, OfSymbol, OfObject, OfMade, OfHidden, OfChanged, OfHiddenChanged, OfCell, OfScope, OfChangedScope, OfQueue, OfProgram, OfSides, OfTexts, OfNoted, OfEntry, OfRules, OfRevoked, OfJoined, OfHalted}
+use Rattle.mb_world.specs.Laws.{Becomes, same_graph, OfText, OfSymbol, OfMade, OfHidden, OfChanged, OfHiddenChanged, OfCell, OfScope, OfChangedScope, OfQueue, OfProgram, OfSides, OfTexts, OfEntry, OfRules, OfRevoked, OfJoined, OfHalted}
 use Rattle.mb_world.proofs.Stands.{stands-set}
 use Rattle.mb_world.proofs.Grow.{Grows-same, Grows-then, Hold-grows}
 use Rattle.mb_world.proofs.Images.{things-grow, symbols-grow, scopes-grow, queues-grow, programs-grow, rules-grow}

@@ -1,6 +1,5 @@
 -- An array is made: its `length`.
 use Rattle.std.proofs.Common.{◌≡◌, ℕ, ◌<◌, ◌≤◌, ◌+◌, ◌-◌, ◌^◌, List, [], ◌∷◌, ◌++◌, length, slice_get, Option, Some, None, Bool, true, false, ◌||◌, arith, length-append, refl, sym, ◌∙◌, ap, get_or, map, is_some, true≢false, lit<, nat_lt, pos}
-use Rattle.std.specs.Prelude.{All}
 use Rattle.std.specs.List.{position_or_len, list_any}
 use Rattle.std.specs.Str.{bytes_eq as same_text}
 use Rattle.std.proofs.lemmas.Slice.Eq.{bytes_eq-Decides}
@@ -11,18 +10,16 @@ use Rattle.std.proofs.lemmas.List.Elements.{All-cons, All-nil}
 use Rattle.std.proofs.lemmas.Option.{slice_get_within, get_or_from_slice_get, slice_get-get_or}
 use Rattle.std.proofs.lemmas.Bool.Decides.{nat_tests}
 use Rattle.mb_base.specs.declared.value.StrId.{StrId}
-use Rattle.mb_base.specs.declared.value.ObjId.{ObjId}
 use Rattle.mb_base.specs.declared.value.Side.{Side}
 use Rattle.mb_base.specs.declared.value.Value.{Value}
 use Rattle.mb_base.specs.declared.value.Value.TheVariants as v
 use Rattle.mb_desc.specs.declared.descriptor.Full.TheVariants.{Datum}
 use Rattle.mb_text.specs.Index.{index_of}
-use Rattle.mb_text.specs.Texts.{text_at, with_text, has_text, AreDistinct}
+use Rattle.mb_text.specs.Texts.{with_text, has_text, AreDistinct}
 use Rattle.mb_text.proofs.WithText.{one_place}
 use Rattle.mb_text.proofs.Indices.{no_index_by_digits}
 use Rattle.mb_world.specs.declared.cell.CellKind.{CellKind}
 use Rattle.mb_world.specs.declared.cell.CellKind.TheVariants.{Array}
-use Rattle.mb_world.specs.declared.cell.Cell.{Cell}
 use Rattle.mb_world.specs.Data.{Data, is_array, length_units, length_id, length_key, with_texts}
 use Rattle.mb_world.specs.Ids.{KeyIn, CellIn, ValueIn, TextIn, PropertyIn, PairIn, Maybe}
 use Rattle.mb_world.specs.machine.Arrays.{array_by}

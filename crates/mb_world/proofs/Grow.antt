@@ -1,7 +1,7 @@
 -- A world whose ids name what they named.
-use Rattle.std.proofs.Common.{◌≡◌, ℕ, ◌<◌, ◌≤◌, ◌+◌, List, [], ◌∷◌, ◌++◌, length, slice_get, slice_set, Option, Some, None, arith, length-append, refl, sym, ◌∙◌, ap, get_or}
+use Rattle.std.proofs.Common.{◌≡◌, ℕ, ◌≤◌, List, length, slice_get, Option, Some, None, arith, refl, sym, ◌∙◌, ap}
 use Rattle.std.specs.Prelude.{All}
-use Rattle.std.proofs.lemmas.List.Elements.{All-weaker, All-push}
+use Rattle.std.proofs.lemmas.List.Elements.{All-weaker}
 use Rattle.std.proofs.lemmas.Option.{slice_get_within, get_or_from_slice_get}
 use Rattle.mb_base.specs.declared.value.StrId.{StrId}
 use Rattle.mb_base.specs.declared.value.SymId.{SymId}
@@ -11,10 +11,8 @@ use Rattle.mb_base.specs.declared.value.Key.{Key}
 use Rattle.mb_base.specs.declared.value.Key.TheVariants as k
 use Rattle.mb_base.specs.declared.value.Value.{Value}
 use Rattle.mb_base.specs.declared.value.Value.TheVariants as v
-use Rattle.mb_desc.specs.declared.descriptor.Desc.{Desc}
 use Rattle.mb_desc.specs.declared.descriptor.Full.{Full}
 use Rattle.mb_desc.specs.declared.descriptor.Full.TheVariants.{Datum, Accessor}
-use Rattle.mb_text.specs.Texts.{text_at}
 use Rattle.mb_text.specs.Index.{index_of}
 use Rattle.mb_world.specs.declared.cell.CellKind.{CellKind}
 use Rattle.mb_world.specs.declared.cell.CellKind.TheVariants.{Function, Proxy, Revoker, Membrane}
@@ -32,7 +30,7 @@ use Rattle.mb_world.specs.declared.rule.Rule.{Rule}
 use Rattle.mb_world.specs.declared.rule.RuleKind.{RuleKind}
 use Rattle.mb_world.specs.declared.rule.RuleKind.TheVariants as r
 use Rattle.mb_world.specs.Data.{Data, Script}
-use Rattle.mb_world.specs.Ids.{Maybe, TextIn, SymbolIn, ObjIn, ScopeIn, KeyIn, ValueIn, FullIn, PropertyIn, PairIn, KindIn, CellIn, BoundIn, ScopeOf, JobIn, RuleKindIn, RuleIn, SeenIn, DescSeenIn, SaidIn, EntryIn, ScriptIn, Hold, HasItsIds}
+use Rattle.mb_world.specs.Ids.{Maybe, TextIn, SymbolIn, ObjIn, ScopeIn, KeyIn, ValueIn, FullIn, PropertyIn, PairIn, KindIn, CellIn, BoundIn, ScopeOf, JobIn, RuleKindIn, RuleIn, SeenIn, SaidIn, EntryIn, ScriptIn, Hold}
 use Rattle.mb_world.specs.Grows.{Grows}
 
 pub Grows-same : (d : Data) → Grows d d

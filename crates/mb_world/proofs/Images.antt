@@ -1,11 +1,9 @@
 -- What a world holds stands for the same in each world that it grew to.
-use Rattle.std.proofs.Common.{◌≡◌, ℕ, List, [], ◌∷◌, Option, Some, None, Bool, true, false, refl, sym, ◌∙◌, ap, map, option_map, take}
+use Rattle.std.proofs.Common.{◌≡◌, List, [], ◌∷◌, Option, Some, None, Bool, true, false, refl, ap, map, option_map}
 use Rattle.std.specs.Prelude.{All}
-use Rattle.std.specs.List.{filter}
 use Rattle.std.proofs.lemmas.List.Elements.{All-head, All-tail}
 use Rattle.mb_base.specs.declared.value.StrId.{StrId}
 use Rattle.mb_base.specs.declared.value.NodeId.{NodeId}
-use Rattle.mb_base.specs.declared.value.ObjId.{ObjId}
 use Rattle.mb_base.specs.declared.value.Key.{Key}
 use Rattle.mb_base.specs.declared.value.Key.TheVariants as k
 use Rattle.mb_base.specs.declared.value.Value.{Value}
@@ -24,10 +22,9 @@ use Rattle.mb_world.specs.declared.scope.Job.TheVariants as j
 use Rattle.mb_world.specs.declared.rule.Rule.{Rule}
 use Rattle.mb_world.specs.declared.rule.RuleKind.{RuleKind}
 use Rattle.mb_world.specs.declared.rule.RuleKind.TheVariants as r
-use Rattle.mb_world.specs.FormOf.{form_of}
 use Rattle.mb_world.specs.Graph as graph
 use Rattle.mb_world.specs.Data.{Data, Script, is_object_cell}
-use Rattle.mb_world.specs.Ids.{Maybe, TextIn, ObjIn, KeyIn, ValueIn, FullIn, PropertyIn, PairIn, KindIn, CellIn, BoundIn, ScopeOf, JobIn, RuleKindIn, RuleIn, ScriptIn, HasItsIds}
+use Rattle.mb_world.specs.Ids.{Maybe, TextIn, KeyIn, ValueIn, FullIn, PropertyIn, PairIn, KindIn, CellIn, BoundIn, ScopeOf, JobIn, RuleKindIn, RuleIn, ScriptIn}
 use Rattle.mb_world.specs.Image.{names_of, text_in, Resolve, key_in, full_in, pair_in, slots_in, kind_in, property_in, thing_in, things_in, binding_in, scope_in, job_in, node_in, nodes_in, name_in, program_in, rule_in, rule_kind_in}
 use Rattle.mb_world.specs.Grows.{Grows}
 

@@ -1,6 +1,6 @@
 -- The long texts of the trace, once an entry is added.
 use Rattle.std.proofs.Common.{◌≡◌, ℕ, ◌<◌, ◌≤◌, ◌+◌, ◌^◌, List, [], ◌∷◌, ◌++◌, length, Bool, true, false, if◌then◌else◌, arith, length-append, refl, sym, ◌∙◌, ap, filter, fold, append_assoc, take, get_or, Result, Ok, Err, is_ok, true≢false}
-use Rattle.std.specs.Prelude.{All, IfOk}
+use Rattle.std.specs.Prelude.{IfOk}
 use Rattle.std.specs.List.{flat_map, list_any}
 use Rattle.std.proofs.lemmas.List.{append-nil, take_more}
 use Rattle.std.proofs.lemmas.List.Elements.{All-push, filter-append}

@@ -1,5 +1,5 @@
 -- A symbol, a scope or a cell is added to a world.
-use Rattle.std.proofs.Common.{◌≡◌, ℕ, zero, suc, ◌<◌, ◌≤◌, ◌+◌, ◌^◌, List, [], ◌∷◌, ◌++◌, length, slice_get, Option, Some, None, Bool, true, false, arith, length-append, refl, sym, ◌∙◌, ap, get_or, map, option_map}
+use Rattle.std.proofs.Common.{◌≡◌, ℕ, zero, suc, ◌<◌, ◌+◌, ◌^◌, List, [], ◌∷◌, ◌++◌, length, slice_get, Option, Some, arith, length-append, refl, sym, ◌∙◌, ap, get_or, map, option_map}
 use Rattle.std.specs.Prelude.{All}
 use Rattle.std.proofs.lemmas.List.Elements.{All-push}
 use Rattle.std.proofs.lemmas.Option.{slice_get-get_or, slice_get-map}
@@ -13,12 +13,12 @@ use Rattle.mb_world.specs.declared.cell.Cell.{Cell}
 use Rattle.mb_world.specs.declared.scope.Scope.{Scope}
 use Rattle.mb_world.specs.declared.roles.Role.{Role}
 use Rattle.mb_world.specs.Value.{Object}
-use Rattle.mb_world.specs.Data.{Data, kind_stand, stand, stands, is_counted, numbers, place_if, places_from, objects_of, obj_id, with_symbol, with_scope, with_cell}
-use Rattle.mb_world.specs.Ids.{HasItsIds, Hold, TextIn, ObjIn, KindIn, CellIn, ScopeOf, Maybe}
+use Rattle.mb_world.specs.Data.{Data, kind_stand, stand, stands, is_counted, numbers, place_if, places_from, obj_id, with_symbol, with_scope, with_cell}
+use Rattle.mb_world.specs.Ids.{Hold, TextIn, KindIn, CellIn, ScopeOf, Maybe}
 use Rattle.mb_world.specs.Grows.{Grows}
 use Rattle.mb_world.specs.Image.{names_of, stood}
 use Rattle.mb_world.specs.machine.Inside.{IsIndexed, Indexed}
-use Rattle.mb_world.specs.machine.Roles.{noted, plays_by, player}
+use Rattle.mb_world.specs.machine.Roles.{noted, plays_by}
 use Rattle.mb_world.specs.machine.Firsts.{or_if}
 use Rattle.mb_world.proofs.Grow.{Hold-grows, Hold-symbols, Hold-cells, Hold-scopes, CellIn-grows, ScopeOf-grows, All-at, Maybe-weaker, TextIn-grows}
 use Rattle.mb_world.proofs.Stands.{numbers_from-append, count_from, length-numbers_from, count-places, places-append}

@@ -1,20 +1,16 @@
 -- The index of roles, once a cell is noted.
-use Rattle.std.proofs.Common.{◌≡◌, ℕ, ◌<◌, ◌≤◌, ◌+◌, List, [], ◌∷◌, ◌++◌, length, Option, Some, None, Bool, true, false, ◌&&◌, cond, nat_lt, nat_eq, eqb, arith, length-append, refl, sym, ◌∙◌, ap, map, option_map, is_some, true≢false}
+use Rattle.std.proofs.Common.{◌≡◌, ℕ, List, [], ◌∷◌, ◌++◌, length, Bool, true, false, ◌&&◌, nat_eq, arith, refl, sym, ◌∙◌, ap, true≢false}
 use Rattle.std.specs.Prelude.{position}
-use Rattle.std.specs.List.{position_or_len}
-use Rattle.std.specs.Map.{lookup}
 use Rattle.std.proofs.lemmas.Bool.{eqb-true}
 use Rattle.std.proofs.lemmas.Bool.Decides.{nat_tests}
-use Rattle.std.proofs.lemmas.List.Folds.{position_or_len_push}
-use Rattle.std.proofs.lemmas.List.Sums.{prefix_len-le-length}
 use Rattle.mb_base.specs.declared.value.ObjId.{ObjId}
 use Rattle.mb_base.specs.declared.value.Side.{Side}
 use Rattle.mb_world.specs.contracts.roles.RolePartialEq.TheImpl
 use Rattle.mb_world.specs.declared.roles.Role.{Role}
 use Rattle.mb_world.specs.declared.roles.Role.TheVariants.{ProxyOf, BuiltInOf, BuiltIn}
 use Rattle.mb_world.specs.declared.cell.Cell.{Cell}
-use Rattle.mb_world.specs.Data.{Stand, Counted, AtPlace, Before, Hidden, stand, obj_id, stands_at, stands_before, same_side}
-use Rattle.mb_world.specs.machine.Roles.{same_role, plays, plays_by, player, noted, AreRoles}
+use Rattle.mb_world.specs.Data.{Stand, Counted, AtPlace, Before, Hidden, obj_id, same_side}
+use Rattle.mb_world.specs.machine.Roles.{same_role, plays, plays_by, player, noted}
 use Rattle.mb_world.specs.machine.Firsts.{or_if}
 use Rattle.mb_world.proofs.Firsts.{or_if-false, or_if-map, position-push}
 

@@ -1,5 +1,5 @@
 -- The queues of the sides, as the code writes one of them.
-use Rattle.std.proofs.Common.{◌≡◌, ℕ, ◌<◌, List, [], length, slice_set, refl, sym, ◌∙◌, ap, map, get_or, Result, Ok, Err}
+use Rattle.std.proofs.Common.{◌≡◌, ℕ, ◌<◌, List, [], length, slice_set, refl, map, get_or, Result, Ok, Err}
 use Rattle.std.specs.Prelude.{OnErr}
 use Rattle.std.proofs.lemmas.List.{map-set, set-get_or}
 use Rattle.mb_world.proofs.Worlds.{read-map}

@@ -1,13 +1,13 @@
 -- Which cells have a number, once one is added or changed.
-use Rattle.std.proofs.Common.{◌≡◌, ℕ, zero, suc, ◌<◌, ◌≤◌, ◌+◌, List, [], ◌∷◌, ◌++◌, length, slice_get, slice_set, slice_index_or, Option, Some, None, Bool, true, false, ◌&&◌, arith, length-append, length-set, refl, sym, ◌∙◌, ap, map, option_map, get_or, add-one}
+use Rattle.std.proofs.Common.{◌≡◌, ℕ, zero, suc, ◌<◌, ◌≤◌, ◌+◌, List, [], ◌∷◌, ◌++◌, length, slice_get, slice_set, Option, Some, None, Bool, true, false, arith, refl, sym, ◌∙◌, ap, option_map, get_or}
 use Rattle.std.specs.Prelude.{IfSome}
 use Rattle.std.proofs.lemmas.Grind.{get_or_default_zero}
-use Rattle.std.proofs.lemmas.List.{length-map, map-append, get_or-map}
+use Rattle.std.proofs.lemmas.List.{length-map, get_or-map}
 use Rattle.std.proofs.Math.Seq.{map-set_same}
-use Rattle.std.proofs.lemmas.Option.{slice_get_within, get_or_from_slice_get, slice_get-map}
+use Rattle.std.proofs.lemmas.Option.{get_or_from_slice_get, slice_get-map}
 use Rattle.mb_base.specs.declared.value.ObjId.{ObjId}
 use Rattle.mb_world.specs.declared.cell.Cell.{Cell}
-use Rattle.mb_world.specs.Data.{Stand, Counted, AtPlace, Before, Hidden, stand, stands, is_counted, next_if, numbers, numbers_from, place_if, places_from, obj_id, objects_of, serial_of}
+use Rattle.mb_world.specs.Data.{Stand, Hidden, stand, stands, is_counted, next_if, numbers, numbers_from, place_if, places_from, obj_id, objects_of, serial_of}
 
 pub length-numbers_from : (n : ℕ) (ss : List Stand) → length (numbers_from n ss) ≡ length ss
 length-numbers_from n [] = refl

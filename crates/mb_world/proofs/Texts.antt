@@ -1,5 +1,5 @@
 -- Texts are added to a world.
-use Rattle.std.proofs.Common.{◌≡◌, ℕ, ◌<◌, ◌≤◌, ◌+◌, List, [], ◌∷◌, ◌++◌, length, Bool, true, false, nat_lt, arith, length-append, refl, sym, ◌∙◌, ap, get_or, filter, fold, cond}
+use Rattle.std.proofs.Common.{◌≡◌, ℕ, List, [], ◌∷◌, ◌++◌, Bool, true, false, arith, length-append, refl, sym, ◌∙◌, ap, filter, fold}
 use Rattle.std.specs.Prelude.{All, Option, Some, None}
 use Rattle.std.specs.List.{flat_map}
 use Rattle.std.proofs.Math.ListN.{get_or-append}
@@ -10,8 +10,7 @@ use Rattle.mb_base.specs.declared.value.ObjId.{ObjId}
 use Rattle.mb_base.specs.declared.value.StrId.{StrId}
 use Rattle.mb_base.specs.declared.value.Key.{Key}
 use Rattle.mb_base.specs.declared.value.Key.TheVariants as k
-use Rattle.mb_desc.specs.declared.descriptor.Desc.{Desc}
-use Rattle.mb_text.specs.Texts.{text_at, with_text, has_text, AreDistinct}
+use Rattle.mb_text.specs.Texts.{with_text, has_text, AreDistinct}
 use Rattle.mb_world.specs.declared.entry.Entry.{Entry}
 use Rattle.mb_world.specs.declared.entry.Seen.{Seen}
 use Rattle.mb_world.specs.declared.entry.Seen.TheVariants as s
@@ -20,9 +19,9 @@ use Rattle.mb_world.specs.declared.entry.Said.TheVariants as said
 use Rattle.mb_world.specs.declared.roles.Role.{Role}
 use Rattle.mb_world.specs.Data.{Data, with_texts}
 use Rattle.mb_world.specs.Long.{key_texts, seen_texts, texts_if, said_texts, entry_texts, is_long, long_texts, same_id}
-use Rattle.mb_world.specs.Ids.{HasItsIds, Hold, TextIn, KeyIn, SeenIn, SaidIn, EntryIn, Maybe}
+use Rattle.mb_world.specs.Ids.{TextIn, KeyIn, SeenIn, SaidIn, EntryIn, Maybe}
 use Rattle.mb_world.specs.Grows.{Grows}
-use Rattle.mb_world.specs.machine.Inside.{IsIndexed, LongIndexed}
+use Rattle.mb_world.specs.machine.Inside.{IsIndexed}
 use Rattle.mb_world.proofs.Grow.{Hold-grows}
 
 -- the texts stay where they were

@@ -1,14 +1,13 @@
 -- The changes of a world keep its invariant.
-use Rattle.std.proofs.Common.{◌≡◌, ℕ, ◌<◌, ◌≤◌, ◌+◌, ◌^◌, List, [], ◌∷◌, ◌++◌, length, slice_get, slice_set, Option, Some, None, Bool, true, false, ◌&&◌, cond, nat_lt, nat_eq, arith, length-append, length-set, refl, sym, ◌∙◌, ap, get_or, zero, suc, map, option_map, take, drop, is_some, filter, fold}
-use Rattle.std.specs.Prelude.{All, IfSome, position}
+use Rattle.std.proofs.Common.{◌≡◌, ℕ, ◌<◌, ◌+◌, List, [], ◌∷◌, ◌++◌, length, slice_get, slice_set, Option, Some, None, Bool, true, false, arith, length-set, refl, sym, ◌∙◌, ap, get_or, map, take, drop}
+use Rattle.std.specs.Prelude.{All, IfSome}
 use Rattle.std.specs.Option.{option_to_list}
-use Rattle.std.specs.List.{position_or_len, flat_map}
+use Rattle.std.specs.List.{position_or_len}
 use Rattle.std.specs.Map.{remove_entry}
-use Rattle.std.proofs.lemmas.List.Elements.{All-set, All-push, All-cons, All-nil, All-head, All-tail, All-weaker, All-drop, All-take, All-append}
+use Rattle.std.proofs.lemmas.List.Elements.{All-set, All-push, All-cons, All-head, All-tail, All-weaker, All-drop, All-take, All-append}
 use Rattle.std.proofs.lemmas.List.Folds.{position_or_len-set}
-use Rattle.std.proofs.lemmas.Option.{slice_get_within, get_or_from_slice_get, slice_get_read, slice_get-get_or, slice_get-map}
-use Rattle.std.proofs.lemmas.List.{append-nil, map-append, length-map, map-set, get_or-map, set-get_or}
-use Rattle.indexmap.specs.IndexSet.{insert_key}
+use Rattle.std.proofs.lemmas.Option.{get_or_from_slice_get, slice_get_read}
+use Rattle.std.proofs.lemmas.List.{get_or-map}
 use Rattle.mb_base.specs.declared.value.Side.{Side}
 use Rattle.mb_base.specs.declared.value.ObjId.{ObjId}
 use Rattle.mb_base.specs.declared.value.ScopeId.{ScopeId}
@@ -16,23 +15,20 @@ use Rattle.mb_base.specs.declared.value.StrId.{StrId}
 use Rattle.mb_base.specs.declared.value.Key.{Key}
 use Rattle.mb_base.specs.declared.value.Value.{Value}
 use Rattle.mb_desc.specs.declared.descriptor.Full.{Full}
-use Rattle.mb_text.specs.Texts.{text_at, with_text, has_text, AreDistinct}
-use Rattle.mb_props.specs.Table.{insert_entry, same_key, without, found}
+use Rattle.mb_props.specs.Table.{insert_entry, same_key}
 use Rattle.mb_world.specs.declared.cell.Cell.{Cell}
 use Rattle.mb_world.specs.declared.scope.Scope.{Scope}
 use Rattle.mb_world.specs.declared.scope.Job.{Job}
 use Rattle.mb_world.specs.declared.scope.Bound.{Bound}
-use Rattle.mb_world.specs.declared.entry.Entry.{Entry}
 use Rattle.mb_world.specs.declared.rule.Rule.{Rule}
 use Rattle.mb_world.specs.declared.roles.Role.{Role}
-use Rattle.mb_world.specs.Data.{Data, Script, stand, stands, numbers, objects_of, obj_id, cell_at, scope_at, property_at, slots_at, names_at, change_cell, change_scope, set_scope, with_cell, set_cell, put_in, remove_in, with_slot, giving, give_at, give_if, given_value, queue_of, with_queue, with_program, with_texts}
-use Rattle.mb_world.specs.Long.{is_long, long_texts, entry_texts, same_id}
-use Rattle.mb_world.specs.Ids.{HasItsIds, Hold, ObjIn, ScopeIn, TextIn, KeyIn, ValueIn, FullIn, PropertyIn, PairIn, CellIn, BoundIn, ScopeOf, JobIn, RuleIn, EntryIn, ScriptIn, Maybe}
+use Rattle.mb_world.specs.Data.{Data, Script, stand, stands, numbers, cell_at, scope_at, change_cell, change_scope, set_scope, set_cell, put_in, remove_in, with_slot, giving, give_if, given_value, queue_of, with_queue, with_program}
+use Rattle.mb_world.specs.Ids.{HasItsIds, Hold, ObjIn, ScopeIn, KeyIn, ValueIn, FullIn, PropertyIn, PairIn, CellIn, BoundIn, ScopeOf, JobIn, ScriptIn, Maybe}
 use Rattle.mb_world.specs.Grows.{Grows}
 use Rattle.mb_world.specs.Image.{object_in}
-use Rattle.mb_world.specs.machine.Inside.{IsIndexed, Indexed, Sized, LongIndexed}
-use Rattle.mb_world.specs.machine.Roles.{player, plays, plays_by, AreRoles}
-use Rattle.mb_world.proofs.Grow.{Grows-same, Hold-grows, Hold-cells, Hold-scopes, Hold-queues, Hold-programs, Hold-rules, Hold-entries, CellIn-grows, ScopeOf-grows, All-at, EntryIn-grows, JobIn-grows}
+use Rattle.mb_world.specs.machine.Inside.{IsIndexed, Indexed}
+use Rattle.mb_world.specs.machine.Roles.{player, plays}
+use Rattle.mb_world.proofs.Grow.{Hold-grows, Hold-cells, Hold-scopes, Hold-queues, Hold-programs, CellIn-grows, ScopeOf-grows, All-at, JobIn-grows}
 use Rattle.mb_world.proofs.Stands.{stands-set}
 
 -- ---- what code reads

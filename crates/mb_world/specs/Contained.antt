@@ -1,5 +1,5 @@
 -- Each side holds only its own, and has one proxy for each foreign object.
-use Rattle.std.specs.Prelude.{ℕ, suc, ◌<◌, ◌≡◌, ◌≢◌, ◌++◌, List, [], ◌∷◌, Option, Some, None, Bool, true, false, not, nat_eq, All, slice_get, IsSomeAnd}
+use Rattle.std.specs.Prelude.{ℕ, suc, ◌<◌, ◌≡◌, ◌≢◌, ◌++◌, List, [], ◌∷◌, Option, Some, None, Bool, true, false, not, nat_eq, All, IsSomeAnd}
 use Rattle.std.specs.List.{filter, flat_map}
 use Rattle.mb_base.specs.declared.value.Side.{Side}
 use Rattle.mb_base.specs.declared.value.ObjId.{ObjId}

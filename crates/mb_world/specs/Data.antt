@@ -1,5 +1,5 @@
 -- A world as plain data: the lists and flags that its calls tell, and the world after each call.
-use Rattle.std.specs.Prelude.{ℕ, suc, zero, ◌<◌, ◌≤◌, ◌≡◌, ◌+◌, nat_eq, ◌-◌, ◌^◌, Bool, true, false, ◌&&◌, ◌||◌, List, [], ◌∷◌, ◌++◌, length, take, drop, Option, Some, None, slice_get, slice_set, slice_index_or, map, option_map, position, codes, pos}
+use Rattle.std.specs.Prelude.{ℕ, suc, ◌+◌, nat_eq, ◌-◌, ◌^◌, Bool, true, false, ◌&&◌, ◌||◌, List, [], ◌∷◌, ◌++◌, take, drop, Option, Some, None, slice_get, slice_set, slice_index_or, map, option_map, position, codes, pos}
 use Rattle.std.specs.List.{filter, position_or_len}
 use Rattle.std.specs.Str.{bytes_eq as same_text}
 use Rattle.mb_base.specs.declared.value.StrId.{StrId}

@@ -1,5 +1,5 @@
 -- What holds of each world between the calls of a machine.
-use Rattle.std.specs.Prelude.{ℕ, ◌<◌, ◌≤◌, ◌≡◌, ◌≢◌, ◌^◌, ◌-◌, ◌++◌, ◌&&◌, List, [], ◌∷◌, map, Option, Some, None, Bool, true, false, All, slice_get, IsSomeAnd, pos, negsuc, ℤ, nat_lt, nat_eq, is_some}
+use Rattle.std.specs.Prelude.{ℕ, ◌<◌, ◌≤◌, ◌≡◌, ◌≢◌, ◌^◌, ◌-◌, ◌++◌, List, [], ◌∷◌, map, Option, Some, None, Bool, true, false, All, slice_get, IsSomeAnd, pos, negsuc, ℤ, nat_lt, nat_eq, is_some}
 use Rattle.std.specs.List.{flat_map, IsDistinct}
 use Rattle.mb_base.specs.declared.value.Side.{Side}
 use Rattle.mb_base.specs.declared.value.Key.{Key}
@@ -18,7 +18,7 @@ use Rattle.mb_world.specs.declared.scope.Scope.{Scope}
 use Rattle.mb_world.specs.declared.entry.Entry.{Entry}
 use Rattle.mb_world.specs.declared.scope.Job.{Job}
 use Rattle.mb_world.specs.declared.scope.Job.TheVariants as j
-use Rattle.mb_world.specs.Value.{Val, same_value}
+use Rattle.mb_world.specs.Value.{same_value}
 use Rattle.mb_world.specs.Form.{Form, FunctionForm, FunctionDeclForm, ArrowForm, MethodForm, GetterForm, SetterForm}
 use Rattle.mb_world.specs.Graph as graph
 use Rattle.mb_world.specs.Graph.{Thing}

@@ -1,5 +1,5 @@
 -- A world that grew: its ids name what they named, and each reference stands for what it stood for.
-use Rattle.std.specs.Prelude.{ℕ, ◌≤◌, ◌≡◌, length}
+use Rattle.std.specs.Prelude.{◌≤◌, ◌≡◌, length}
 use Rattle.mb_base.specs.declared.value.StrId.{StrId}
 use Rattle.mb_base.specs.declared.value.ObjId.{ObjId}
 use Rattle.mb_text.specs.Texts.{text_at}

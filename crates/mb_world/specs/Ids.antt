@@ -1,5 +1,5 @@
 -- Each id that stands in a world is one of it.
-use Rattle.std.specs.Prelude.{ℕ, ◌<◌, ◌≡◌, List, length, Option, Some, None, All, Bool, true, false}
+use Rattle.std.specs.Prelude.{◌<◌, ◌≡◌, List, length, Option, Some, None, All, true}
 use Rattle.mb_base.specs.declared.value.StrId.{StrId}
 use Rattle.mb_base.specs.declared.value.SymId.{SymId}
 use Rattle.mb_base.specs.declared.value.ScopeId.{ScopeId}
@@ -14,7 +14,7 @@ use Rattle.mb_desc.specs.declared.descriptor.Full.TheVariants.{Datum, Accessor}
 use Rattle.mb_text.specs.Index.{index_of}
 use Rattle.mb_text.specs.Texts.{text_at}
 use Rattle.mb_world.specs.declared.cell.CellKind.{CellKind}
-use Rattle.mb_world.specs.declared.cell.CellKind.TheVariants.{Function, Proxy, Revoker, Membrane, Collection}
+use Rattle.mb_world.specs.declared.cell.CellKind.TheVariants.{Function, Proxy, Revoker, Membrane}
 use Rattle.mb_world.specs.declared.cell.Cell.{Cell}
 use Rattle.mb_world.specs.declared.scope.Scope.{Scope}
 use Rattle.mb_world.specs.declared.scope.Bound.{Bound}

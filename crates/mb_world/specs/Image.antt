@@ -1,5 +1,5 @@
 -- What a world stands for: its values, its objects, and the graph of them all.
-use Rattle.std.specs.Prelude.{ℕ, ◌+◌, List, [], ◌∷◌, ◌++◌, map, take, Bool, true, false, Option, Some, None, slice_get, slice_index_or, option_map, ◌≡◌}
+use Rattle.std.specs.Prelude.{ℕ, List, [], map, take, Bool, Option, Some, None, slice_get, slice_index_or, option_map}
 use Rattle.std.specs.List.{filter}
 use Rattle.mb_base.specs.declared.value.StrId.{StrId}
 use Rattle.mb_base.specs.declared.value.ObjId.{ObjId}
@@ -32,7 +32,6 @@ use Rattle.mb_world.specs.declared.rule.RuleKind.TheVariants as r
 use Rattle.mb_text.specs.Texts.{text_at}
 use Rattle.mb_world.specs.Value.{Val, Undefined, Null, Truth, Whole, Text, Symbol, Object, BuiltIn}
 use Rattle.mb_world.specs.Key.{PropertyKey, Named, SymbolKey}
-use Rattle.mb_world.specs.Form.{Form}
 use Rattle.mb_world.specs.FormOf.{TreeNode, form_of}
 use Rattle.mb_world.specs.Graph.{Graph, Thing, Kind, Plain, Array, Function, Standard, Fault, Proxy, Gone, Revoker, Collection, Slots, Property, Code, Scope, Binding, Job, Script as ScriptJob, Call, Program, ScopeName, Rule, RuleKind, Hide, ReadOnly, Substitute, Revoke, Said, SaidNothing, SaidFlag, SaidValue, SaidAbsent, SaidProperty, SaidKeys, SaidThrow, SaidPair, Entry, Item}
 use Rattle.mb_world.specs.Data.{Data, Script, Stand, Counted, AtPlace, Before, Hidden, stands, numbers, cell_at, is_object_cell}

@@ -1,5 +1,5 @@
 -- What a world stands for after each call, and that each id of before stands for what it stood for.
-use Rattle.std.specs.Prelude.{ℕ, ◌≡◌, ◌++◌, List, [], ◌∷◌, length, map, Option, Some, None, Bool, true, false, slice_set, option_map, take}
+use Rattle.std.specs.Prelude.{ℕ, ◌≡◌, ◌++◌, List, [], ◌∷◌, length, map, Option, Some, true, false, slice_set, option_map, take}
 use Rattle.mb_base.specs.declared.value.StrId.{StrId}
 use Rattle.mb_base.specs.declared.value.ObjId.{ObjId}
 use Rattle.mb_base.specs.declared.value.ScopeId.{ScopeId}
@@ -16,7 +16,7 @@ use Rattle.mb_world.specs.Value.{Object}
 use Rattle.mb_world.specs.Graph.{Graph, Item}
 use Rattle.mb_world.specs.Objects.{thing_at}
 use Rattle.mb_world.specs.Data.{Data, fresh, Script, stand, kind_stand, is_counted, is_object_cell, obj_id, cell_at, scope_at, with_texts, with_symbol, change_cell, with_scope, change_scope, with_queue, with_program, with_entry, made, new_cell}
-use Rattle.mb_world.specs.Ids.{HasItsIds, TextIn, ValueIn, KindIn, Maybe}
+use Rattle.mb_world.specs.Ids.{HasItsIds}
 use Rattle.mb_world.specs.Grows.{Grows}
 use Rattle.mb_world.specs.Image.{names_of, object_in, number_at, thing_in, scope_in, job_in, program_in, rule_in, entry_in, entries_in, Image}
 

@@ -101,13 +101,15 @@ fn remove(rt: &impl Abort, w: &mut World, id: ObjId, text: u32) -> bool {
 fn property(rt: &impl Abort, w: &World, id: ObjId, place: u32) -> Option<(u32, i64)> {
     there(rt, w, id);
     match w.cell(id).props.at(place) {
-        Some((
-            Key::Text { text, .. },
-            Full::Datum {
-                value: Value::Whole(number),
-                ..
-            },
-        )) => Some((text.0, number)),
+        Some(
+            (
+                Key::Text { text, .. },
+                Full::Datum {
+                    value: Value::Whole(number),
+                    ..
+                },
+            ),
+        ) => Some((text.0, number)),
         _ => None,
     }
 }
@@ -294,7 +296,11 @@ fn numbers_go_on_over_proxies_and_shadows(rt: HostRuntime) {
     let mut w = world(&rt, rt.alloc());
     make_all(&rt, &mut w, &CELLS);
     are_serials(&rt, &w, &SERIALS);
-    are_objects(&rt, &w, &[(0, Some(ObjId(0))), (1, Some(ObjId(4))), (2, None)]);
+    are_objects(
+        &rt,
+        &w,
+        &[(0, Some(ObjId(0))), (1, Some(ObjId(4))), (2, None)],
+    );
 }
 
 #[test]
@@ -362,7 +368,12 @@ fn a_removal_keeps_the_order(rt: HostRuntime) {
 fn a_slot_is_written_or_is_the_last(rt: HostRuntime) {
     let mut w = world(&rt, rt.alloc());
     let id = make(&rt, &mut w, Side::LEFT, CellKind::Collection(Coll::Set));
-    set_slots(&rt, &mut w, id, &[(0, false), (1, true), (0, true), (1, false)]);
+    set_slots(
+        &rt,
+        &mut w,
+        id,
+        &[(0, false), (1, true), (0, true), (1, false)],
+    );
     are_slots(&rt, &w, id, &[Some(true), Some(false), None]);
 }
 

@@ -1,5 +1,5 @@
 -- An array as the code makes it.
-use Rattle.std.specs.Prelude.{ℕ, ◌-◌, ◌^◌, true, false, [], ◌∷◌, Option, pos}
+use Rattle.std.specs.Prelude.{◌-◌, ◌^◌, true, false, [], ◌∷◌, Option, pos}
 use Rattle.mb_base.specs.declared.value.StrId.{StrId}
 use Rattle.mb_base.specs.declared.value.Side.{Side}
 use Rattle.mb_base.specs.declared.value.Key.TheVariants as k

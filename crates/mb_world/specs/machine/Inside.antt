@@ -1,10 +1,8 @@
 -- What a world holds, as data, and what its indexes hold.
-use Rattle.std.specs.Prelude.{ℕ, ◌<◌, ◌≡◌, ◌^◌, [], ◌∷◌, List, length, map, option_map, Option, Some, None}
+use Rattle.std.specs.Prelude.{ℕ, ◌<◌, ◌≡◌, ◌^◌, List, length, map, option_map, Option}
 use Rattle.mb_base.specs.declared.value.ObjId.{ObjId}
 use Rattle.mb_base.specs.declared.value.StrId.{StrId}
-use Rattle.mb_tree.specs.declared.program.Program.{Program}
 use Rattle.mb_text.specs.Texts.{AreDistinct}
-use Rattle.mb_tree.specs.Roses.{shapes}
 use Rattle.mb_world.specs.declared.cell.Cell.{Cell}
 use Rattle.mb_world.specs.declared.scope.Scope.{Scope}
 use Rattle.mb_world.specs.declared.scope.Job.{Job}

@@ -1,14 +1,12 @@
 -- The index of proxies and built-ins: for each role, the first cell that plays it.
-use Rattle.std.specs.Prelude.{ℕ, ◌≡◌, nat_eq, Bool, true, false, ◌&&◌, List, [], ◌∷◌, Option, Some, None, option_map, position}
+use Rattle.std.specs.Prelude.{◌≡◌, nat_eq, Bool, false, ◌&&◌, List, Option, option_map, position}
 use Rattle.std.specs.Map.{lookup}
 use Rattle.mb_base.specs.declared.value.ObjId.{ObjId}
 use Rattle.mb_base.specs.declared.value.Side.{Side}
-use Rattle.mb_world.specs.declared.cell.CellKind.{CellKind}
-use Rattle.mb_world.specs.declared.cell.CellKind.TheVariants as kind
 use Rattle.mb_world.specs.declared.cell.Cell.{Cell}
 use Rattle.mb_world.specs.declared.roles.Role.{Role}
 use Rattle.mb_world.specs.declared.roles.Role.TheVariants.{ProxyOf, BuiltInOf, BuiltIn}
-use Rattle.mb_world.specs.Data.{obj_id, same_side, stand, Stand, kind_stand, stands_at, stands_before}
+use Rattle.mb_world.specs.Data.{obj_id, same_side, stand, Stand, stands_at, stands_before}
 
 abbrev pub same_role : Role → Role → Bool
 same_role (ProxyOf s o) (ProxyOf t p) = nat_eq s.0 t.0 && nat_eq o.0 p.0

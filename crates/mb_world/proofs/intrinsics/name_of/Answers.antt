@@ -1,4 +1,4 @@
-use Rattle.std.proofs.Common.{◌≡◌, option_map, map, sym, ◌∙◌}
+use Rattle.std.proofs.Common.{sym, ◌∙◌}
 use Rattle.std.proofs.lemmas.Option.{slice_get-map}
 use Rattle.mb_world.specs.Intrinsics.{intrinsics, name_of}
 use Rattle.mb_world.proofs.intrinsics.name_of.Goals as goal

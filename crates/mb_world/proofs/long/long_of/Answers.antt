@@ -1,4 +1,4 @@
-use Rattle.std.proofs.Common.{◌≡◌, refl, ap, ◌∙◌, ◌++◌, [], filter}
+use Rattle.std.proofs.Common.{ap, ◌∙◌, ◌++◌, [], filter}
 use Rattle.mb_world.specs.Long.{is_long, key_texts, said_texts, texts_if}
 use Rattle.mb_world.proofs.LongTexts.{filtered}
 use Rattle.mb_world.proofs.long.long_of.Goals as goal

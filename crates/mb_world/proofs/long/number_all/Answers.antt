@@ -1,4 +1,3 @@
-use Rattle.std.proofs.Common.{◌≡◌}
 use Rattle.indexmap.specs.IndexSet.{spare}
 use Rattle.mb_world.proofs.LongTexts.{number-step}
 use Rattle.mb_world.proofs.long.number_all.Goals as goal

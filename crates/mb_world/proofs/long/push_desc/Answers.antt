@@ -1,4 +1,4 @@
-use Rattle.std.proofs.Common.{◌≡◌, refl, ap, ◌∙◌, ◌++◌, filter}
+use Rattle.std.proofs.Common.{ap, ◌∙◌, ◌++◌, filter}
 use Rattle.mb_world.specs.Long.{is_long, seen_texts, texts_if}
 use Rattle.mb_world.proofs.LongTexts.{filtered}
 use Rattle.mb_world.proofs.long.push_desc.Goals as goal

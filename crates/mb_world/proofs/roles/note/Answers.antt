@@ -1,6 +1,5 @@
-use Rattle.std.proofs.Common.{◌≡◌, ap, sym, ◌∙◌, refl, is_some, None, Some, cond}
+use Rattle.std.proofs.Common.{ap, sym, ◌∙◌, is_some, Some, cond}
 use Rattle.std.specs.Map.{lookup}
-use Rattle.mb_world.specs.declared.roles.Role.{Role}
 use Rattle.mb_world.specs.machine.Roles.{noted, same_role}
 use Rattle.mb_world.proofs.Noted.{same, same_role-equal, same_role-same}
 use Rattle.mb_world.proofs.Firsts.{note-new, none-of}

@@ -1,4 +1,4 @@
-use Rattle.std.proofs.Common.{◌≡◌, ◌∙◌, ap}
+use Rattle.std.proofs.Common.{◌∙◌, ap}
 use Rattle.mb_world.specs.declared.roles.Role.TheVariants.{BuiltInOf}
 use Rattle.mb_world.specs.machine.Roles.{noted, same_role}
 use Rattle.mb_world.specs.machine.Firsts.{or_if}

@@ -1,4 +1,4 @@
-use Rattle.std.proofs.Common.{◌≡◌, sym, ◌∙◌, ap, is_some}
+use Rattle.std.proofs.Common.{sym, ◌∙◌}
 use Rattle.mb_world.specs.Long.{same_id}
 use Rattle.mb_world.specs.machine.Places.{placed}
 use Rattle.mb_world.proofs.BoundNames.{same_id-equal, same_id-same}

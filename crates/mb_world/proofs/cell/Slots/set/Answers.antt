@@ -1,4 +1,4 @@
-use Rattle.std.proofs.Common.{◌≡◌, ◌<◌, ◌+◌, length, arith, refl, sym, ◌∙◌, add-one}
+use Rattle.std.proofs.Common.{◌<◌, length, arith, add-one}
 use Rattle.std.proofs.lemmas.List.{set_split}
 use Rattle.mb_world.proofs.cell.Slots.set.Goals as goal
 

@@ -1,6 +1,6 @@
-use Rattle.std.proofs.Common.{◌≡◌, refl, ◌∙◌, sym, ap, arith, length, ◌<◌, ◌+◌, ◌^◌, ◌≤◌}
+use Rattle.std.proofs.Common.{◌≡◌, ◌∙◌, ap, arith, length, ◌<◌, ◌+◌, ◌^◌}
 use Rattle.mb_world.specs.declared.roles.Role.{Role}
-use Rattle.mb_world.specs.Data.{stand, obj_id, is_counted}
+use Rattle.mb_world.specs.Data.{stand, obj_id}
 use Rattle.mb_world.specs.Ids.{CellIn}
 use Rattle.mb_world.specs.machine.Inside.{data_of}
 use Rattle.mb_world.specs.machine.Roles.{noted, plays_by}

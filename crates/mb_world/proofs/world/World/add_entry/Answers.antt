@@ -1,8 +1,6 @@
-use Rattle.std.proofs.Common.{◌≡◌, refl, ◌∙◌, sym, ap, arith, length, ◌<◌, ◌+◌, ◌^◌, ◌≤◌, filter, fold}
-use Rattle.std.proofs.lemmas.Grind.{common_steps}
-use Rattle.indexmap.specs.IndexSet.{insert_key}
+use Rattle.std.proofs.Common.{◌≡◌, ap, arith, length, ◌<◌, ◌+◌, ◌^◌, filter}
 use Rattle.mb_world.specs.Ids.{EntryIn}
-use Rattle.mb_world.specs.Long.{is_long, entry_texts, same_id}
+use Rattle.mb_world.specs.Long.{is_long, entry_texts}
 use Rattle.mb_world.specs.machine.Inside.{data_of}
 use Rattle.mb_world.proofs.LongTexts.{Index-entry}
 use Rattle.mb_world.proofs.world.World.add_entry.Goals as goal

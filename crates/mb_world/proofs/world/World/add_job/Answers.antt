@@ -1,9 +1,7 @@
-use Rattle.std.proofs.Common.{◌≡◌, refl, [], ◌∷◌, ◌++◌, ◌<◌, length, sym, ◌∙◌, ap, arith, slice_set}
-use Rattle.std.specs.Prelude.{All}
-use Rattle.std.proofs.lemmas.List.{map-set, set-get_or, length-map}
+use Rattle.std.proofs.Common.{refl, [], ◌∷◌, ◌++◌, ◌<◌, length, arith}
+use Rattle.std.proofs.lemmas.List.{length-map}
 use Rattle.std.proofs.lemmas.List.Elements.{All-push}
-use Rattle.mb_world.specs.declared.scope.Job.{Job}
-use Rattle.mb_world.specs.Data.{queue_of, with_queue}
+use Rattle.mb_world.specs.Data.{queue_of}
 use Rattle.mb_world.specs.Ids.{JobIn}
 use Rattle.mb_world.specs.machine.Inside.{data_of}
 use Rattle.mb_world.proofs.Worlds.{Index-queue, queue-in}

@@ -1,4 +1,3 @@
-use Rattle.std.proofs.Common.{◌≡◌, refl}
 use Rattle.mb_world.specs.Data.{giving}
 use Rattle.mb_world.specs.Ids.{ScopeIn, ValueIn}
 use Rattle.mb_world.specs.machine.Inside.{data_of}

@@ -1,4 +1,3 @@
-use Rattle.std.proofs.Common.{◌≡◌, refl, ◌++◌}
 use Rattle.mb_world.specs.machine.Inside.{data_of}
 use Rattle.mb_world.proofs.Texts.{Index-text}
 use Rattle.mb_world.proofs.world.World.intern.Goals as goal

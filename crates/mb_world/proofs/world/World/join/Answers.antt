@@ -1,4 +1,4 @@
-use Rattle.std.proofs.Common.{◌≡◌, refl, ◌++◌}
+use Rattle.std.proofs.Common.{◌++◌}
 use Rattle.mb_text.specs.Texts.{text_at}
 use Rattle.mb_world.specs.machine.Inside.{data_of}
 use Rattle.mb_world.proofs.Texts.{Index-text}

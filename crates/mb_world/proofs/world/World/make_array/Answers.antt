@@ -1,6 +1,4 @@
-use Rattle.std.proofs.Common.{◌≡◌, refl, ◌∙◌, sym, ap, arith, length, ◌<◌, ◌+◌, ◌^◌, ◌≤◌}
-use Rattle.mb_base.specs.declared.value.StrId.{StrId}
-use Rattle.mb_world.specs.declared.cell.Cell.{Cell}
+use Rattle.std.proofs.Common.{◌≡◌, refl, ◌∙◌, ap, arith, length, ◌<◌, ◌+◌, ◌^◌}
 use Rattle.mb_text.specs.Texts.{with_text}
 use Rattle.mb_world.specs.Data.{Data, Counted, obj_id, length_units, length_id, with_texts}
 use Rattle.mb_world.specs.Ids.{ValueIn, TextIn, Maybe}

@@ -1,4 +1,4 @@
-use Rattle.std.proofs.Common.{◌≡◌, ◌∙◌, ap, slice_get}
+use Rattle.std.proofs.Common.{◌∙◌, ap, slice_get}
 use Rattle.mb_world.proofs.Stands.{object-below}
 use Rattle.mb_world.proofs.world.World.object.Goals as goal
 

@@ -1,4 +1,4 @@
-use Rattle.std.proofs.Common.{◌≡◌, refl, ◌<◌, ◌≤◌, ◌^◌, length, arith, ap}
+use Rattle.std.proofs.Common.{length, arith, ap}
 use Rattle.mb_world.proofs.Stands.{few-objects}
 use Rattle.mb_world.proofs.world.World.objects.Goals as goal
 

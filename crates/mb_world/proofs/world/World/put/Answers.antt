@@ -1,4 +1,4 @@
-use Rattle.std.proofs.Common.{◌≡◌, refl}
+use Rattle.std.proofs.Common.{refl}
 use Rattle.mb_world.specs.Data.{put_in}
 use Rattle.mb_world.specs.Ids.{ObjIn, KeyIn, FullIn}
 use Rattle.mb_world.specs.machine.Inside.{data_of}

@@ -1,5 +1,4 @@
-use Rattle.std.proofs.Common.{◌≡◌, refl, ap, ◌∙◌, sym, is_some}
-use Rattle.mb_props.specs.Table.{found}
+use Rattle.std.proofs.Common.{refl, ap, ◌∙◌, sym, is_some}
 use Rattle.mb_world.specs.Data.{remove_in, property_in}
 use Rattle.mb_world.specs.Ids.{ObjIn}
 use Rattle.mb_world.specs.machine.Inside.{data_of}

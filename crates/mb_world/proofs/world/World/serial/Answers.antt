@@ -1,6 +1,6 @@
-use Rattle.std.proofs.Common.{◌≡◌, refl, ◌<◌, ◌∙◌, sym, ap, length, arith, get_or}
+use Rattle.std.proofs.Common.{◌∙◌, sym, ap, length, arith, get_or}
 use Rattle.std.proofs.lemmas.List.{length-map}
-use Rattle.mb_world.specs.Data.{stand, stands, numbers}
+use Rattle.mb_world.specs.Data.{stand, stands}
 use Rattle.mb_world.specs.Ids.{ObjIn}
 use Rattle.mb_world.specs.machine.Inside.{data_of}
 use Rattle.mb_world.proofs.Stands.{serial-some, length-numbers_from}

@@ -1,4 +1,4 @@
-use Rattle.std.proofs.Common.{◌≡◌, refl, ap, sym, ◌∙◌}
+use Rattle.std.proofs.Common.{refl, ap, sym, ◌∙◌}
 use Rattle.mb_world.specs.Data.{with_kind, cell_at}
 use Rattle.mb_world.specs.Ids.{ObjIn, KindIn}
 use Rattle.mb_world.specs.machine.Inside.{data_of}

@@ -1,6 +1,6 @@
-use Rattle.std.proofs.Common.{◌≡◌, refl, Some, option_map}
+use Rattle.std.proofs.Common.{refl, Some, option_map}
 use Rattle.std.proofs.lemmas.List.{map-set}
-use Rattle.mb_world.specs.Data.{Script, script_of}
+use Rattle.mb_world.specs.Data.{script_of}
 use Rattle.mb_world.specs.Ids.{ScriptIn}
 use Rattle.mb_world.specs.machine.Inside.{data_of}
 use Rattle.mb_world.proofs.Worlds.{Index-program}

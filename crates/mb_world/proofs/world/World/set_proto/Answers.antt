@@ -1,4 +1,4 @@
-use Rattle.std.proofs.Common.{◌≡◌, refl}
+use Rattle.std.proofs.Common.{refl}
 use Rattle.mb_world.specs.Data.{with_proto}
 use Rattle.mb_world.specs.Ids.{ObjIn, ValueIn}
 use Rattle.mb_world.specs.machine.Inside.{data_of}

@@ -1,4 +1,4 @@
-use Rattle.std.proofs.Common.{◌≡◌, refl, ◌<◌, length, sym, ◌∙◌, ap, arith, drop, ◌++◌}
+use Rattle.std.proofs.Common.{◌≡◌, refl, ◌<◌, length, ◌∙◌, ap, arith, drop, ◌++◌}
 use Rattle.std.specs.Option.{option_to_list}
 use Rattle.std.specs.Prelude.{All}
 use Rattle.std.proofs.lemmas.List.{length-map}

@@ -1,6 +1,5 @@
-use Rattle.std.proofs.Common.{◌≡◌, refl, ap, ◌∙◌, sym}
+use Rattle.std.proofs.Common.{ap, ◌∙◌, sym}
 use Rattle.mb_base.specs.declared.value.StrId.{StrId}
-use Rattle.mb_text.specs.Texts.{has_text}
 use Rattle.mb_world.specs.Data.{length_units}
 use Rattle.mb_world.proofs.Arrays.{place-found, place-new}
 use Rattle.mb_world.proofs.world.making.length_text.Goals as goal
