@@ -3,7 +3,7 @@ use Rattle.mb_world.specs.Value.{Val, Undefined, same_value, is_object, is_undef
 use Rattle.mb_world.specs.Key.{Named}
 use Rattle.mb_world.specs.Objects.{is_callable, is_constructor}
 use Rattle.mb_model.specs.Task.{Value}
-use Rattle.mb_model.specs.Writing.{◌>>=◌, give, look, unless_type_error}
+use Rattle.mb_model.specs.Writing.{give, look, unless_type_error}
 use Rattle.mb_model.specs.Operations.Makings.{make_array}
 use Rattle.mb_model.specs.Operations.Calls.{get}
 use Rattle.mb_model.specs.BuiltIns.Arguments.{arg, key_arg, need_object, need_callable, need_constructor, undefined, prototype_or, asked_prototype, made_prototype, array_of}

@@ -1,8 +1,8 @@
 use Rattle.std.proofs.Common.{◌≡◌, ℕ, zero, suc, List, [], ◌∷◌, ◌++◌, Bool, true, false, not, ◌&&◌, nat_le, Option, None, Some, slice_get, slice_set, refl, sym, ap, ◌∙◌, subst, if◌then◌else◌}
-use Rattle.std.specs.Prelude.{ℤ, max, ◌+◌}
+use Rattle.std.specs.Prelude.{ℤ}
 use Rattle.mb_desc.specs.declared.descriptor.Desc.{Desc}
 use Rattle.mb_desc.specs.declared.descriptor.Full.{Full}
-use Rattle.mb_desc.specs.Descriptors.{is_configurable, IsOfOneKind, denies, is_writable, descriptor_of}
+use Rattle.mb_desc.specs.Descriptors.{is_configurable, IsOfOneKind, denies, descriptor_of}
 use Rattle.mb_world.specs.Value.{Val, Undefined, Null, Truth, Whole, Text, Symbol, Object, BuiltIn, whole_of}
 use Rattle.mb_world.specs.Key.{PropertyKey, same_key, index_of_key}
 use Rattle.mb_world.specs.Property.{open_property}
@@ -11,7 +11,7 @@ use Rattle.mb_world.specs.Graph.{Graph, Thing, Kind, Array, Proxy, Property}
 use Rattle.mb_world.specs.Objects.{thing_at, thing_is, is_proxy_kind, with_thing, new_thing, put_property, without_property}
 use Rattle.mb_world.specs.Ordinary.{Defined, Refused, Becomes, Faulty, validated, defined_as, ordinary_defined, closed, with_prototype, Without, deleted}
 use Rattle.mb_world.specs.Ordinary as ordinary
-use Rattle.mb_world.specs.Arrays.{index_key, length_key, array_length, element_as, element_defined, length_as, without_writable, length_below, as_length, length_within, length_given, length_defined, name_defined, array_defined_at, defined_by_kind, defined, element_stored}
+use Rattle.mb_world.specs.Arrays.{index_key, length_key, array_length, element_as, element_defined, length_as, without_writable, length_below, as_length, length_within, length_given, length_defined, array_defined_at, defined_by_kind, defined, element_stored}
 use Rattle.mb_world.specs.View.{shown_property, Remove, Free, Admits}
 use Rattle.mb_model.specs.Operations.Calls.{target_is_array}
 use Rattle.mb_model.specs.Operations.Makings.{array_thing}

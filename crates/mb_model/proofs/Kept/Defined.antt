@@ -1,4 +1,4 @@
-use Rattle.std.proofs.Common.{◌≡◌, ℕ, List, Bool, true, false, Option, Some, None, refl, sym, ap, ◌∙◌, subst}
+use Rattle.std.proofs.Common.{◌≡◌, ℕ, Bool, true, false, Option, Some, None, refl, sym, ap, ◌∙◌, subst}
 use Rattle.std.proofs.lemmas.Option.{same_Some}
 use Rattle.mb_desc.specs.declared.descriptor.Desc.{Desc}
 use Rattle.mb_desc.specs.declared.descriptor.Full.{Full}
@@ -12,7 +12,7 @@ use Rattle.mb_world.specs.Ordinary.{Defined, Refused, Becomes, Faulty, ordinary_
 use Rattle.mb_world.specs.Arrays.{element_stored}
 use Rattle.mb_model.specs.Task.{Answer, Method, DefineOwnProperty, Nothing}
 use Rattle.mb_model.specs.Fitting.{FitsMethod}
-use Rattle.mb_model.specs.Writing.{◌>>=◌, yes_or_no, flag, perform, unless_type_error, truth}
+use Rattle.mb_model.specs.Writing.{yes_or_no, flag, perform, unless_type_error, truth}
 use Rattle.mb_model.specs.Operations.Calls.{target_is_array}
 use Rattle.mb_model.specs.Operations.Makings.{alter}
 use Rattle.mb_model.specs.Objects.Methods.{settled, stored_in, store_element}

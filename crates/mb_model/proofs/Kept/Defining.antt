@@ -3,7 +3,6 @@ use Rattle.mb_desc.specs.declared.descriptor.Desc.{Desc}
 use Rattle.mb_desc.specs.Descriptors.{IsOfOneKind}
 use Rattle.mb_world.specs.Value.{Val}
 use Rattle.mb_world.specs.Key.{PropertyKey}
-use Rattle.mb_world.specs.Graph.{Graph}
 use Rattle.mb_model.specs.Task.{Answer, DefineOwnProperty}
 use Rattle.mb_model.specs.Writing.{Does, ◌>>=◌, flag, perform}
 use Rattle.mb_model.specs.Operations.Descriptors.{todesc}

@@ -3,12 +3,12 @@ use Rattle.std.proofs.lemmas.Option.{same_Some}
 use Rattle.mb_world.specs.Value.{Val, is_nullish, same_value}
 use Rattle.mb_world.specs.Graph.{Graph, Thing, Kind, Proxy, Gone}
 use Rattle.mb_world.specs.Objects.{thing_at}
-use Rattle.mb_world.specs.Ordinary.{Becomes, closed, with_prototype, prototype_answered, looked, written, Deleted, Leaves, Without, deleted}
+use Rattle.mb_world.specs.Ordinary.{closed, with_prototype, prototype_answered, looked, written, Deleted, Leaves, Without, deleted}
 use Rattle.mb_world.specs.Arrays.{defined}
 use Rattle.mb_world.specs.View.{shown_property, shown_keys, Ruling, Free, Decided, is_cut, owner_or}
-use Rattle.mb_model.specs.Task.{Task, Walk, Perform, Answer, Value, Prop, Method, GetPrototypeOf, SetPrototypeOf, IsExtensible, PreventExtensions, GetOwnProperty, DefineOwnProperty, HasProperty, Get, Set, Delete, OwnPropertyKeys, Call, Construct}
+use Rattle.mb_model.specs.Task.{Walk, Perform, Value, Prop, Method, GetPrototypeOf, SetPrototypeOf, IsExtensible, PreventExtensions, GetOwnProperty, DefineOwnProperty, HasProperty, Get, Set, Delete, OwnPropertyKeys, Call, Construct}
 use Rattle.mb_model.specs.Fitting.{FitsMethod, Fits}
-use Rattle.mb_model.specs.Writing.{Does, ◌>>=◌, yes_or_no, again, answer}
+use Rattle.mb_model.specs.Writing.{Does, yes_or_no, again, answer}
 use Rattle.mb_model.specs.Operations.Calls.{get}
 use Rattle.mb_model.specs.Operations.Makings.{alter}
 use Rattle.mb_model.specs.Objects.Methods.{walk_ends, prototype_set, walk_from, walk_at, walk_row, walk_unless, ordinary_set_prototype, ordinary_delete, ordinary, change_of, ruling, ruled, method}

@@ -3,7 +3,7 @@ use Rattle.mb_world.specs.Value.{Undefined, Whole, Text, to_boolean}
 use Rattle.mb_world.specs.Form.{Form, ScriptForm, LetForm, ConstForm, DeclForm, FunctionDeclForm, BlockForm, EmptyForm, ExprStmtForm, IfForm, WhileForm, DoWhileForm, ForForm, ReturnForm, ThrowForm, BreakForm, ContinueForm, TryForm, ParamForm, ThisForm, NameForm, NumberForm, TextForm, LiteralForm, ArrayForm, ObjectForm, ValueForm, MethodForm, GetterForm, SetterForm, FunctionForm, ArrowForm, GroupForm, MemberForm, IndexForm, AssignForm, CompoundForm, UpdateForm, CallForm, NewForm, CondForm, OrForm, AndForm, SeqForm, UnaryForm, BinaryForm}
 use Rattle.mb_world.specs.Standard.{object_prototype}
 use Rattle.mb_model.specs.Task.{Nothing, Break, Continue}
-use Rattle.mb_model.specs.Writing.{outcome, ◌>>=◌, throw, look, is_value}
+use Rattle.mb_model.specs.Writing.{outcome, throw, look, is_value}
 use Rattle.mb_model.specs.Operations.Makings.{make_plain, make_function}
 use Rattle.mb_model.specs.Nodes.Scopes.{form_at, read_name, code}
 use Rattle.mb_model.specs.Nodes.Evaluation.{Context, task, eval, branch}

@@ -3,7 +3,7 @@ use Rattle.mb_world.specs.Value.{Val, Undefined, to_boolean}
 use Rattle.mb_world.specs.Form.{Form, MemberForm, IndexForm}
 use Rattle.mb_world.specs.Objects.{is_callable, is_constructor}
 use Rattle.mb_model.specs.Task.{Call, Construct}
-use Rattle.mb_model.specs.Writing.{◌>>=◌, answer, look, perform, is_value}
+use Rattle.mb_model.specs.Writing.{answer, look, perform, is_value}
 use Rattle.mb_model.specs.Operations.Calls.{getv}
 use Rattle.mb_model.specs.Nodes.Evaluation.{Context, task, eval}
 use Rattle.mb_model.specs.Nodes.References.{Reference, ToName, ToPlace, refer}

@@ -1,4 +1,4 @@
-use Rattle.std.specs.Prelude.{ℕ, ◌+◌, List, [], ◌∷◌, ◌++◌, length, true, false, nat_lt, Option, Some, None, codes}
+use Rattle.std.specs.Prelude.{ℕ, List, [], ◌∷◌, ◌++◌, length, true, false, nat_lt, Option, Some, None, codes}
 use Rattle.mb_world.specs.Value.{Val}
 use Rattle.mb_world.specs.Key.{PropertyKey, Named}
 use Rattle.mb_world.specs.Form.{PropName, Written, Computed, FunctionParts, Form, ValueForm, MethodForm, GetterForm, SetterForm}

@@ -11,7 +11,7 @@ use Rattle.mb_check.specs.declared.verdict.Verdict.TheVariants.{Pass, Broken}
 use Rattle.mb_model.specs.Task.{Answer, Nothing, Value, Flag, Prop, Keys, Method, GetPrototypeOf, SetPrototypeOf, IsExtensible, PreventExtensions, GetOwnProperty, DefineOwnProperty, HasProperty, Get, Set, Delete, OwnPropertyKeys, Call, Construct}
 use Rattle.mb_model.specs.Writing.{◌>>=◌, give, look, value, keys, perform, type_error, unless_type_error}
 use Rattle.mb_model.specs.Operations.Makings.{make_array}
-use Rattle.mb_model.specs.Operations.Calls.{get, list_of}
+use Rattle.mb_model.specs.Operations.Calls.{list_of}
 use Rattle.mb_model.specs.Operations.Descriptors.{todesc, fromdesc}
 use Rattle.mb_model.specs.Objects.Proxies.{Parted, judge, read_extensible, read_own, prototype_read, prototype_extensible, prototype_said, set_prototype_read, set_prototype_extensible, set_prototype_said, extensible_read, extensible_said, prevent_read, prevent_said, absent_extensible, absent_read, absent_said, own_extensible, own_read, own_converted, own_present_said, own_said, define_extensible, define_read, define_said, has_said, get_read, get_said, set_read, set_said, delete_said, with_parted, keys_parted, keys_read, keys_extensible, as_keys, keys_listed, keys_said, construct_said, trap_value, trap_flag, trapped, call_trap, trap_callable}
 use Rattle.std.proofs.Common.{refl}

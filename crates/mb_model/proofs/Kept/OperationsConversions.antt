@@ -1,7 +1,7 @@
 use Rattle.std.specs.Prelude.{ℕ, ◌+◌, ◌/◌, List, ◌++◌, length, nat_lt, ℤ}
 use Rattle.mb_world.specs.Value.{Val, Whole, Text, to_text}
 use Rattle.mb_world.specs.Key.{key_of}
-use Rattle.mb_model.specs.Writing.{◌>>=◌, give, pay, range_error}
+use Rattle.mb_model.specs.Writing.{give, pay, range_error}
 use Rattle.mb_model.specs.Operations.Conversions.{to_key, text_by, text_limit, join_charged, join_texts, in_range, whole}
 use Rattle.mb_model.proofs.Kept.Words.{Kept, Goes, keeps->>=, keeps-give, keeps-if, keeps-or_type_error, keeps-pay, keeps-range_error}
 

@@ -2,7 +2,7 @@ use Rattle.std.specs.Prelude.{ℕ, Bool, true, false, ◌||◌, Some}
 use Rattle.mb_desc.specs.declared.descriptor.Desc.{Desc}
 use Rattle.mb_world.specs.Value.{Val, is_undefined, to_boolean}
 use Rattle.mb_world.specs.Objects.{is_callable}
-use Rattle.mb_model.specs.Writing.{◌>>=◌, give, look, unless_type_error}
+use Rattle.mb_model.specs.Writing.{give, look, unless_type_error}
 use Rattle.mb_model.specs.Operations.Calls.{get}
 use Rattle.mb_model.specs.Operations.Descriptors.{Field, EnumerableField, ConfigurableField, ValueField, WritableField, GetField, SetField, field_key, accessor_part, with_field, field_found}
 use Rattle.mb_model.proofs.Kept.Words.{Kept, Goes, keeps->>=, keeps-give, keeps-look, keeps-unless_type_error}

@@ -1,4 +1,4 @@
-use Rattle.std.proofs.Common.{◌≡◌, ℕ, zero, suc, ◌+◌, ◌-◌, List, [], ◌∷◌, Bool, true, false, nat_le, Option, Some, None, slice_get, refl, ap, if◌then◌else◌}
+use Rattle.std.proofs.Common.{◌≡◌, ℕ, zero, suc, ◌+◌, ◌-◌, List, [], ◌∷◌, Bool, true, false, nat_le, Option, Some, None, ap, if◌then◌else◌}
 use Rattle.mb_world.specs.declared.cell.ErrorKind.TheVariants.{RangeError}
 use Rattle.mb_world.specs.Value.{Val, to_boolean}
 use Rattle.mb_world.specs.Graph.{Graph, Thing}
@@ -6,7 +6,7 @@ use Rattle.mb_world.specs.Objects.{thing_is}
 use Rattle.mb_world.specs.Standard.{array_prototype}
 use Rattle.mb_world.specs.Arrays.{length_limit}
 use Rattle.mb_model.specs.Task.{Answer, Value}
-use Rattle.mb_model.specs.Writing.{Does, ◌>>=◌, give, make, range_error, is_value}
+use Rattle.mb_model.specs.Writing.{Does, ◌>>=◌, give, make, range_error}
 use Rattle.mb_model.specs.Operations.Calls.{target_is_array}
 use Rattle.mb_model.specs.Operations.Makings.{array_thing, make_array}
 use Rattle.mb_model.specs.Objects.Methods.{store_element}
@@ -15,8 +15,8 @@ use Rattle.mb_model.specs.Nodes.Literals.{elements}
 use Rattle.mb_model.specs.BuiltIns.Arguments.{arg, need_callable}
 use Rattle.mb_model.specs.BuiltIns.Arrays.{array_start, each_turn, fresh_array}
 use Rattle.mb_model.specs.BuiltIns.ArrayMembers.{callback, map_found, map_each, map_row, filter_kept, filter_called, filter_found, filter_each, filter_row, index_arg, slice_found, slice_each, slice}
-use Rattle.mb_model.proofs.Kept.Changes.{Apart, is_array_at, Lasts}
-use Rattle.mb_model.proofs.Kept.Words.{Kept, Along, Gets, At, Goes, along-stays, along-made, at-then, gets-then, gets-fail, keeps->>=, keeps-give, keeps-is_value}
+use Rattle.mb_model.proofs.Kept.Changes.{Apart, is_array_at}
+use Rattle.mb_model.proofs.Kept.Words.{Kept, Gets, At, Goes, along-stays, along-made, at-then, gets-then, gets-fail, keeps->>=, keeps-give, keeps-is_value}
 use Rattle.mb_model.proofs.Kept.Made.{new-array_thing, last-made}
 use Rattle.mb_model.proofs.Kept.Defined.{at-store_element}
 use Rattle.mb_model.proofs.Kept.NodesEvaluation.{keeps-eval}
