@@ -1,14 +1,14 @@
 -- The number of a text in a world is its number in the trace.
-use Rattle.std.proofs.Common.{◌≡◌, ℕ, ◌<◌, ◌≤◌, ◌+◌, List, [], ◌∷◌, ◌++◌, length, map, fold, filter, zero, suc, Bool, true, false, not, ◌||◌, cond, nat_lt, nat_eq, if◌then◌else◌, Option, Some, None, option_map, slice_get, get_or, arith, refl, sym, ap, ◌∙◌, true≢false}
-use Rattle.std.specs.Prelude.{All, Contains, position}
+use Rattle.std.proofs.Common.{◌≡◌, ℕ, ◌<◌, ◌+◌, List, [], ◌∷◌, ◌++◌, length, map, fold, filter, zero, suc, Bool, true, false, not, ◌||◌, cond, nat_lt, nat_eq, if◌then◌else◌, Option, Some, None, option_map, slice_get, get_or, arith, refl, sym, ap, ◌∙◌, true≢false}
+use Rattle.std.specs.Prelude.{All}
 use Rattle.std.specs.List.{flat_map, list_any, position_or_len}
 use Rattle.std.specs.Cmp.Lexicographic.{bytes_decides}
 use Rattle.std.specs.Str.{bytes_eq as same_text}
 use Rattle.std.proofs.lemmas.Bool.{eqb-true}
 use Rattle.std.proofs.lemmas.Bool.Decides.{nat_tests}
 use Rattle.std.proofs.lemmas.Cmp.{nat_list_eq_equiv}
-use Rattle.std.proofs.lemmas.List.{map-append, length-map}
-use Rattle.std.proofs.lemmas.List.Elements.{All-append, All-cons, All-nil, All-head, All-tail, All-filter, All-contains, All-weaker, All-contains_itself}
+use Rattle.std.proofs.lemmas.List.{map-append}
+use Rattle.std.proofs.lemmas.List.Elements.{All-append, All-cons, All-nil, All-head, All-tail, All-filter}
 use Rattle.std.proofs.lemmas.Option.{slice_get-get_or}
 use Rattle.indexmap.specs.IndexSet.{insert_key}
 use Rattle.mb_base.specs.declared.value.StrId.{StrId}

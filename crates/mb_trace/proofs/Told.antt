@@ -1,13 +1,12 @@
 -- The texts of an entry of a world are told as the definition tells them.
-use Rattle.std.proofs.Common.{◌≡◌, ℕ, ◌<◌, ◌+◌, List, [], ◌∷◌, ◌++◌, Bool, true, false, length, map, Option, Some, None, refl, sym, ap, ◌∙◌}
+use Rattle.std.proofs.Common.{◌≡◌, ◌<◌, ◌+◌, List, [], ◌∷◌, ◌++◌, Bool, true, false, Option, Some, None, refl, sym, ap}
 use Rattle.std.specs.Prelude.{All, Contains, if◌then◌else◌}
 use Rattle.std.specs.List.{flat_map, list_any, position_or_len}
 use Rattle.std.specs.Str.{bytes_eq as same_text}
-use Rattle.std.proofs.lemmas.List.Elements.{All-append, All-cons, All-nil, All-head, All-tail, All-contains, All-weaker}
+use Rattle.std.proofs.lemmas.List.Elements.{All-append, All-cons, All-nil, All-head, All-tail, All-contains}
 use Rattle.mb_base.specs.declared.value.StrId.{StrId}
 use Rattle.mb_base.specs.declared.value.Key.{Key}
 use Rattle.mb_base.specs.declared.value.Key.TheVariants as k
-use Rattle.mb_desc.specs.declared.descriptor.Desc.{Desc}
 use Rattle.mb_text.specs.Spelling.{spelled}
 use Rattle.mb_text.specs.Texts.{text_at, AreDistinct}
 use Rattle.mb_world.specs.declared.entry.Entry.{Entry}
@@ -18,10 +17,8 @@ use Rattle.mb_world.specs.declared.entry.Seen.TheVariants as s
 use Rattle.mb_world.specs.Value.{decimal}
 use Rattle.mb_world.specs.Data.{Data}
 use Rattle.mb_world.specs.Ids.{HasItsIds, EntryIn, KeyIn, SeenIn, SaidIn, TextIn, Maybe}
-use Rattle.mb_world.specs.Image.{entries_in, entry_in}
-use Rattle.mb_world.specs.Long.{key_texts, seen_texts, texts_if, desc_texts, said_texts, entry_texts, is_long, same_id, long_texts, long_of}
-use Rattle.mb_world.specs.EntryLine.{numbered_texts, is_long_text, seen_text}
-use Rattle.mb_trace.specs.machine.Told.{numbered, told_by, IsTold, KeyTold, SeenTold, DescTold, SaidTold, EntryTold}
+use Rattle.mb_world.specs.Long.{key_texts, seen_texts, texts_if, said_texts, entry_texts, is_long, same_id, long_of}
+use Rattle.mb_trace.specs.machine.Told.{numbered, told_by, IsTold, KeyTold, SeenTold, SaidTold, EntryTold}
 use Rattle.mb_trace.proofs.Numbering.{All-left, All-right, All-of-each, position-of, long-numbered, short-unnumbered, any-itself}
 
 -- ---- the texts of the entries are of the world

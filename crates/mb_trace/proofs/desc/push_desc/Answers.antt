@@ -1,6 +1,4 @@
-use Rattle.std.proofs.Common.{◌≡◌, ◌++◌, [], ◌∙◌}
-use Rattle.std.specs.Prelude.{codes}
-use Rattle.mb_world.specs.Value.{truth_text}
+use Rattle.std.proofs.Common.{[], ◌∙◌}
 use Rattle.mb_world.specs.Image.{seen_in, desc_in}
 use Rattle.mb_world.specs.EntryLine.{fields_seen}
 use Rattle.mb_trace.specs.machine.Told.{numbered}

@@ -1,4 +1,4 @@
-use Rattle.std.proofs.Common.{◌≡◌, [], ◌∷◌, ◌++◌, ap, ◌∙◌}
+use Rattle.std.proofs.Common.{[], ◌∷◌, ◌++◌, ap, ◌∙◌}
 use Rattle.mb_world.specs.Value.{decimal}
 use Rattle.mb_world.specs.EntryLine.{op_name, side_letter}
 use Rattle.mb_trace.proofs.Parts.{headed}

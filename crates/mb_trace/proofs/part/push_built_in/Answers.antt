@@ -1,4 +1,4 @@
-use Rattle.std.proofs.Common.{◌≡◌, ◌++◌, ◌∷◌, [], ap, ◌∙◌, sym}
+use Rattle.std.proofs.Common.{◌++◌, ◌∷◌, ap, ◌∙◌, sym}
 use Rattle.mb_trace.proofs.Names.{no-name}
 use Rattle.mb_trace.proofs.part.push_built_in.Goals as goal
 

@@ -1,4 +1,4 @@
-use Rattle.std.proofs.Common.{◌≡◌, ◌++◌, ap, ◌∙◌, arith}
+use Rattle.std.proofs.Common.{◌++◌, ap, ◌∙◌, arith}
 use Rattle.mb_trace.proofs.Decimals.{decimal-printed}
 use Rattle.mb_trace.proofs.part.push_number.Goals as goal
 

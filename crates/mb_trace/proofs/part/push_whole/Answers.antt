@@ -1,4 +1,4 @@
-use Rattle.std.proofs.Common.{◌≡◌, ◌++◌, ap, ◌∙◌, w64}
+use Rattle.std.proofs.Common.{◌++◌, ap, ◌∙◌, w64}
 use Rattle.std.specs.Fmt.{signed_decimal}
 use Rattle.std.proofs.lemmas.Int.{to_z-of_z}
 use Rattle.mb_trace.proofs.Decimals.{whole-printed}
