@@ -22,7 +22,7 @@ use Rattle.mb_model.specs.Fitting.{FitsMethod}
 use Rattle.mb_model.specs.Writing.{◌>>=◌, give, unless_type_error}
 use Rattle.mb_model.specs.Operations.Makings.{altered}
 use Rattle.mb_model.specs.Objects.Methods.{settled, walk_row, walk_unless, ordinary_delete, ordinary, change_of, ruling, ruled, list_keys}
-use Rattle.mb_model.specs.Meaning.{perform_kind, perform_thing, perform_row, finished, entries_made, row, Ends, Means}
+use Rattle.mb_model.specs.Meaning.{perform_kind, perform_thing, perform_row, finished, entries_made, Ends, Means}
 use Rattle.mb_model.specs.Trace.Entries.{makes_entry, method_noted, said_outcome}
 use Rattle.mb_growth.specs.Objects.{as_view, IsFormed}
 use Rattle.mb_growth.specs.Later.{Moves, AreFormed}

@@ -1,11 +1,10 @@
 -- What a method of a built-in object answers passes; no method changes one.
-use Rattle.std.proofs.Common.{◌≡◌, ℕ, Bool, true, false, not, ◌&&◌, List, [], ◌∷◌, ◌++◌, map, Option, None, Some, is_some, is_none, refl, sym, ap, ◌∙◌, subst, if◌then◌else◌}
+use Rattle.std.proofs.Common.{◌≡◌, ℕ, Bool, true, false, not, List, [], ◌∷◌, ◌++◌, map, Option, None, Some, is_some, refl, sym, ap, ◌∙◌, subst}
 use Rattle.std.specs.Prelude.{option_map}
 use Rattle.mb_desc.specs.declared.descriptor.Desc.{Desc}
 use Rattle.mb_desc.specs.declared.descriptor.Full.{Full}
-use Rattle.mb_desc.specs.Descriptors.{denies, is_configurable, is_writable}
+use Rattle.mb_desc.specs.Descriptors.{is_configurable, is_writable}
 use Rattle.mb_desc.specs.Validate.{Validate}
-use Rattle.mb_desc.specs.View.{View}
 use Rattle.mb_view.specs.Views.{property_of}
 use Rattle.mb_view.specs.Entries as deed
 use Rattle.mb_view.specs.Passing.{AllowsDefined}
@@ -14,18 +13,16 @@ use Rattle.mb_world.specs.Value.{Val, Undefined, Null, Truth, Whole, Text, Symbo
 use Rattle.mb_world.specs.Key.{PropertyKey, same_key}
 use Rattle.mb_world.specs.Intrinsics.{function_length, Intrinsic, intrinsic, MapPrototypeSize, SetPrototypeSize, ErrorPrototype, TypeErrorPrototype, RangeErrorPrototype, ReferenceErrorPrototype}
 use Rattle.mb_world.specs.Graph.{Graph, Thing, Rule, RuleKind, Property}
-use Rattle.mb_world.specs.Objects.{thing_at, is_proxy_kind, find_property, own_property, with_property}
-use Rattle.mb_world.specs.Ordinary.{Refused, Becomes, closed, prototype_answered, defined_as, validated, deleted}
-use Rattle.mb_world.specs.Standard.{function_properties, constructor_of, constructor_property, error_properties, member, members_of, properties_of, standard, standard_at}
-use Rattle.mb_world.specs.View.{applies, some_rule, find_key_rule, names_key, is_read_only_rule, is_read_only, key_rule, shown_by, shown_property, shown_keys, Shown, Free, is_cut}
-use Rattle.mb_model.specs.Task.{Perform, Answer, Value, Flag, Prop, Keys, Method, GetPrototypeOf, SetPrototypeOf, IsExtensible, PreventExtensions, GetOwnProperty, DefineOwnProperty, HasProperty, Get, Set, Delete, OwnPropertyKeys, Call, Construct, Outcome, Normal}
-use Rattle.mb_model.specs.Fitting.{FitsMethod}
+use Rattle.mb_world.specs.Objects.{thing_at, find_property, own_property, with_property}
+use Rattle.mb_world.specs.Ordinary.{closed, prototype_answered, defined_as, validated, deleted}
+use Rattle.mb_world.specs.Standard.{function_properties, constructor_of, constructor_property, error_properties, member, members_of, properties_of, standard}
+use Rattle.mb_world.specs.View.{some_rule, find_key_rule, is_read_only_rule, is_read_only, key_rule, shown_by, shown_property, shown_keys, Shown, Free, is_cut}
+use Rattle.mb_model.specs.Task.{Perform, Value, Flag, Prop, Keys, Method, GetPrototypeOf, SetPrototypeOf, IsExtensible, PreventExtensions, GetOwnProperty, DefineOwnProperty, HasProperty, Get, Set, Delete, OwnPropertyKeys, Call, Construct, Outcome, Normal}
 use Rattle.mb_model.specs.Writing.{◌>>=◌, give, unless_type_error}
 use Rattle.mb_model.specs.Operations.Makings.{altered}
-use Rattle.mb_model.specs.Objects.Methods.{settled, walk_unless, ordinary_delete, ordinary, change_of, ruling, ruled, list_keys}
-use Rattle.mb_model.specs.Meaning.{perform_kind, perform_thing, perform_row, finished, entries_made, row, Means}
+use Rattle.mb_model.specs.Objects.Methods.{settled, walk_unless, ordinary_delete, ordinary, change_of, ruling, ruled}
+use Rattle.mb_model.specs.Meaning.{perform_kind, perform_thing, perform_row, finished, entries_made, Means}
 use Rattle.mb_model.specs.Trace.Entries.{makes_entry, method_noted, said_outcome}
-use Rattle.mb_growth.specs.Later.{AreFormed}
 use Rattle.mb_growth.specs.Answered.{EntryPasses, PassesAsItEnds, PassesAtMoment, EndPasses, OrdinaryEntriesPass}
 use Rattle.mb_growth.proofs.Values.{value-sound}
 use Rattle.mb_growth.proofs.Seen.{seen-at}

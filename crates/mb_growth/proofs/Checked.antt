@@ -1,27 +1,25 @@
 -- What the checks of a Proxy's traps let pass, passes against the view that stands in the target's place.
-use Rattle.std.proofs.Common.{◌≡◌, ℕ, Bool, true, false, not, ◌&&◌, ◌||◌, List, [], ◌∷◌, ◌++◌, Option, None, Some, is_some, refl, sym, ap, ◌∙◌, subst, if◌then◌else◌}
+use Rattle.std.proofs.Common.{◌≡◌, ℕ, Bool, true, false, not, ◌&&◌, ◌||◌, List, [], ◌∷◌, ◌++◌, Option, None, Some, is_some, refl, sym, ap, ◌∙◌}
 use Rattle.std.specs.List.{list_any, list_all, filter}
 use Rattle.std.specs.Map.{keys_of, lookup}
 use Rattle.mb_desc.specs.declared.descriptor.Desc.{Desc}
 use Rattle.mb_desc.specs.declared.descriptor.Full.{Full}
 use Rattle.mb_desc.specs.Descriptors.{Complete, denies, is_configurable, is_fixed, is_writable, is_unwritable, property_is, descriptor_of}
 use Rattle.mb_desc.specs.View.{View}
-use Rattle.mb_check.specs.declared.verdict.Verdict.{Verdict}
-use Rattle.mb_check.specs.declared.verdict.Verdict.TheVariants.{Pass, Broken}
 use Rattle.mb_check.specs.Keys.{is_among, all_among, are_distinct}
 use Rattle.mb_check.specs.Rules.{first_broken, same_prototype, absent, compatible}
-use Rattle.mb_view.specs.Views.{property_of, IsFixed}
+use Rattle.mb_view.specs.Views.{property_of}
 use Rattle.mb_view.specs.Entries as deed
-use Rattle.mb_view.specs.Passing.{AllowsSaid, AllowsDefined, MayLack, Passes}
+use Rattle.mb_view.specs.Passing.{AllowsSaid, AllowsDefined, Passes}
 use Rattle.mb_view.proofs.Tables.{any-lookup, same_key-sym}
 use Rattle.mb_world.specs.declared.entry.Op.{Op}
 use Rattle.mb_world.specs.declared.entry.Op.TheVariants.{GetPrototypeOf, SetPrototypeOf, IsExtensible, PreventExtensions, GetOwnPropertyDescriptor, DefineProperty, Has, Get, Set, DeleteProperty, OwnKeys, Apply, Construct, Collect}
 use Rattle.mb_world.specs.Value.{Val, Undefined, same_value}
 use Rattle.mb_world.specs.Key.{PropertyKey, same_key}
-use Rattle.mb_world.specs.Graph.{Said, SaidNothing, SaidFlag, SaidValue, SaidAbsent, SaidProperty, SaidKeys, SaidThrow, SaidPair, Entry}
+use Rattle.mb_world.specs.Graph.{Said, SaidFlag, SaidValue, SaidAbsent, SaidProperty, SaidKeys}
 use Rattle.mb_model.specs.Objects.Rules as rule
 use Rattle.mb_model.specs.Trace.Lawful.{deed_by}
-use Rattle.mb_model.specs.Trace.Answers.{is_pass, closed_prototype, keys_with, own_at, is_prototype, own_keys_pass, answer_passes}
+use Rattle.mb_model.specs.Trace.Answers.{is_pass, closed_prototype, keys_with, is_prototype, own_keys_pass, answer_passes}
 use Rattle.mb_growth.specs.Answered.{is_checked, ChecksTell}
 use Rattle.mb_growth.proofs.Values.{key-sound, value-sound}
 

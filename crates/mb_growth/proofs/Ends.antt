@@ -8,7 +8,7 @@ use Rattle.mb_model.specs.Engine.{Gives, Spent, Ret, Pay, Turn, Do, Again, by, a
 use Rattle.mb_model.specs.Task.{Task, Evaluate, Loop, Chain, Walk, Perform, Enter, Run, Access, Visit, Answer, Nothing, Flag, Outcome, Normal, Throw, Return, Break, Continue}
 use Rattle.mb_model.specs.Writing.{Row, pass, pay_each}
 use Rattle.mb_model.specs.Operations.Makings.{altered}
-use Rattle.mb_model.specs.Objects.Methods.{walk_ends, prototype_set, walk_from, walk_at, walk_row}
+use Rattle.mb_model.specs.Objects.Methods.{walk_ends, walk_from, walk_at, walk_row}
 use Rattle.mb_model.specs.Meaning.{row, finished, entering, Ends, Means}
 
 -- a walk that ends with true has set the prototype

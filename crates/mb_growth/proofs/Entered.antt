@@ -1,7 +1,6 @@
 -- The entries of a log, and what they tell.
-use Rattle.std.proofs.Common.{◌≡◌, ℕ, zero, suc, ◌≤◌, Bool, true, false, ◌&&◌, nat_eq, List, [], ◌∷◌, ◌++◌, map, take, length, Option, None, Some, slice_get, refl, sym, ap, ◌∙◌, if◌then◌else◌, append-nil, append_assoc}
+use Rattle.std.proofs.Common.{◌≡◌, ℕ, zero, suc, Bool, true, false, nat_eq, List, [], ◌∷◌, ◌++◌, map, take, length, None, Some, slice_get, refl, sym, ap, ◌∙◌, if◌then◌else◌, append-nil, append_assoc}
 use Rattle.std.proofs.lemmas.Bool.{eqb-true}
-use Rattle.mb_view.specs.Promises.{Fact}
 use Rattle.mb_view.specs.Entries as deed
 use Rattle.mb_view.specs.Entries.{is_of, told_by, told_from}
 use Rattle.mb_view.proofs.Lawfulness.{and-both}

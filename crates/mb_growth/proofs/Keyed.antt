@@ -9,15 +9,14 @@ use Rattle.mb_desc.specs.declared.descriptor.Full.TheVariants.{Datum, Accessor}
 use Rattle.mb_desc.specs.Descriptors.{Complete, is_configurable, is_fixed}
 use Rattle.mb_view.specs.Views.{property_of}
 use Rattle.mb_view.specs.Passing.{AllowsGot, AllowsSet, AllowsSaid, AllowsDefined}
-use Rattle.mb_world.specs.Value.{Val, Undefined, Object, same_value}
+use Rattle.mb_world.specs.Value.{Val, Undefined, same_value}
 use Rattle.mb_world.specs.Key.{PropertyKey, same_key, keys_in_order}
 use Rattle.mb_world.specs.Graph.{Graph, Thing}
 use Rattle.mb_world.specs.Objects.{property_keys}
 use Rattle.mb_world.specs.View.{shown_property, shown_keys, Shown, with_key}
-use Rattle.mb_model.specs.Engine.{by, given}
+use Rattle.mb_model.specs.Engine.{given}
 use Rattle.mb_model.specs.Task.{Nothing, Value, Flag, Prop, Keys, GetOwnProperty, DefineOwnProperty, Get, Set, OwnPropertyKeys, Normal}
-use Rattle.mb_model.specs.Writing.{◌>>=◌, give, answer, pass, keys_in, perform}
-use Rattle.mb_model.specs.Operations.Calls.{get}
+use Rattle.mb_model.specs.Writing.{◌>>=◌, give, answer, keys_in, perform}
 use Rattle.mb_model.specs.Objects.Rules as rule
 use Rattle.mb_model.specs.Objects.Proxies.{judge, read_extensible, read_own, own_read, own_converted, define_read, define_said, get_said, set_said, Parted, with_parted, keys_parted, keys_read, keys_extensible, keys_listed}
 use Rattle.mb_model.specs.Trace.Answers.{is_pass, keys_with}

@@ -1,128 +1,42 @@
 -- Along the meaning, and along runs, the trace is lawful.
-use Rattle.std.proofs.Common.{◌≡◌, ◌⊎◌, inl, inr, take, ℕ, zero, suc, ◌<◌, ◌≤◌, Bool, true, false, ◌&&◌, not, nat_lt, List, [], ◌∷◌, ◌++◌, length, Option, None, Some, slice_get, refl, sym, ap, ◌∙◌, subst, if◌then◌else◌, option_map, append-nil, append_assoc, arith}
+use Rattle.std.proofs.Common.{◌≡◌, inl, inr, take, ℕ, zero, suc, ◌<◌, ◌≤◌, Bool, true, false, not, nat_lt, List, [], ◌∷◌, ◌++◌, length, Option, None, Some, slice_get, refl, sym, ap, ◌∙◌, subst, if◌then◌else◌, option_map, append_assoc, arith}
 use Rattle.std.proofs.lemmas.Bool.{ltb-true}
 use Rattle.std.proofs.lemmas.Bool.Decides.{nat_tests}
-use Rattle.mb_view.specs.Entries.{Silent}
 use Rattle.mb_view.proofs.Lawfulness.{and-both}
 use Rattle.mb_world.specs.declared.cell.Shape.{Shape}
 use Rattle.mb_world.specs.Value.{Val, Undefined, Null, Truth, Whole, Text, Symbol, Object, BuiltIn, number_of}
-use Rattle.mb_world.specs.Graph.{Graph, Thing, Kind, Proxy, Gone, Entry, Scope, Item, Job, Script, Call as CallJob, Program, Rule}
+use Rattle.mb_world.specs.Graph.{Graph, Thing, Kind, Proxy, Gone, Entry, Job, Script, Call as CallJob}
 use Rattle.mb_world.specs.Intrinsics.{Intrinsic, intrinsic}
 use Rattle.mb_world.specs.Standard.{standard}
-use Rattle.mb_world.specs.Objects.{thing_at, with_thing, is_proxy_kind}
-use Rattle.mb_world.specs.View.{is_foreign, is_cut, owner_or}
-use Rattle.mb_model.specs.Engine.{Gives, Spent, by, meaning, and_then, exec, given, ending, ends_with, state_of}
-use Rattle.mb_model.specs.Task.{Task, Evaluate, Loop, Chain, Walk, Perform, Enter, Run, Access, Visit, Answer, Method, Request, Outcome, Throw}
-use Rattle.mb_model.specs.Fitting.{FitsMethod, Fits, SeesItself}
-use Rattle.mb_model.specs.Writing.{Row, ◌>>=◌, unless_type_error, with_object}
-use Rattle.mb_model.specs.BuiltIns.Basics.{with_job}
+use Rattle.mb_world.specs.Objects.{thing_at, is_proxy_kind}
+use Rattle.mb_world.specs.View.{is_cut, owner_or}
+use Rattle.mb_model.specs.Engine.{Gives, Spent, by, meaning, and_then, exec, given, ends_with, state_of}
+use Rattle.mb_model.specs.Task.{Task, Evaluate, Loop, Chain, Walk, Perform, Enter, Run, Access, Visit, Method, Request, Outcome, Throw}
+use Rattle.mb_model.specs.Fitting.{FitsMethod}
+use Rattle.mb_model.specs.Writing.{Row, ◌>>=◌, unless_type_error}
 use Rattle.mb_model.specs.BuiltIns.Collections.{access_row}
-use Rattle.mb_model.specs.Trace.Entries.{entries, entry_of, with_entry, is_foreign_at, makes_entry, method_entry, access_entry, method_noted, access_noted}
+use Rattle.mb_model.specs.Trace.Entries.{entries, with_entry, is_foreign_at, makes_entry, method_entry, access_entry, method_noted, access_noted}
 use Rattle.mb_model.specs.Trace.Lawful.{deed_of}
 use Rattle.mb_model.specs.Meaning.{row, finished, entering, entries_made, perform_kind, perform_thing, perform_row, Ends, Means}
-use Rattle.mb_model.specs.Story.{job_ends, with_uncaught, first_graph}
-use Rattle.mb_model.proofs.Engine.{bit, Agree, exec_same, exec-ending, given-row, given-falls}
-use Rattle.mb_model.proofs.Kept.Changes.{IsMade, Change}
-use Rattle.mb_model.proofs.Kept.Words.{Kept, Along, Fitted, Holds, beside-objects}
-use Rattle.mb_model.proofs.Kept.Rows.{OwesNothing, plain_row, plain-holds, EndKnown, EndOwed, DoesSo, exec-owed}
+use Rattle.mb_model.specs.Story.{job_ends, with_uncaught}
+use Rattle.mb_model.proofs.Engine.{Agree, exec_same, exec-ending, given-row, given-falls}
+use Rattle.mb_model.proofs.Kept.Words.{Along, Fitted, Holds}
+use Rattle.mb_model.proofs.Kept.Rows.{plain_row, plain-holds, EndKnown, EndOwed, DoesSo, exec-owed}
 use Rattle.mb_growth.specs.Later.{AreFormed, EachEvolves}
 use Rattle.mb_growth.specs.Answered.{PassesAtMoment, EndPasses, EndBetween}
-use Rattle.mb_growth.specs.Targets.{HasTargets}
 use Rattle.mb_growth.specs.Performed.{KindPasses}
 use Rattle.mb_growth.specs.Lawful.{KeepsPromises, TasksKeepPromises, FirstKeepsPromises, TurnsKeepPromises, LettersKeepPromises, RunsKeepPromises, RunsPass, RunsAreLawful}
-use Rattle.mb_growth.proofs.Graphs.{stays-later, goes-on-later, one-is-made}
-use Rattle.mb_growth.proofs.Made.{made-formed}
-use Rattle.mb_growth.proofs.Runs.{Grows, change-grows}
+use Rattle.mb_growth.proofs.Graphs.{stays-later}
 use Rattle.mb_growth.proofs.Turns.{first-is-formed}
-use Rattle.mb_growth.proofs.Ends.{RowEnds, TaskEnds, ends-entering, means-ends}
+use Rattle.mb_growth.proofs.Ends.{RowEnds, TaskEnds, means-ends}
 use Rattle.mb_growth.proofs.BuiltIns.{ordinary-entries-pass}
-use Rattle.mb_growth.proofs.Reading.{with_thing-rules}
-use Rattle.mb_growth.proofs.Proxies.{proxy-entries-pass}
+use Rattle.mb_growth.proofs.Proxies.{proxies-pass}
 use Rattle.mb_growth.proofs.Throughout.{Lasting, turn-good, letter-good, run-good}
-use Rattle.mb_growth.proofs.Targets.{Aims, stays-same, stays-on, moved-aims, made-aims, first-has-targets}
+use Rattle.mb_growth.proofs.Targets.{Aims, stays-same, first-has-targets}
 use Rattle.mb_growth.proofs.Entered.{quiet-log, entered-log, take-first}
-use Rattle.mb_growth.proofs.Promised.{Onward, promises-on, IsTrue, HowMade, promises-more}
-use Rattle.mb_growth.proofs.Truly.{silent-true, throw-silent, entry_made, Extends, began-within, true-between, ordinary-true}
-
--- ---- from an earlier graph to a later one
-
-onward-same : (g : Graph) → Onward g g
-onward-same g = record { evolves = stays-later g; rules = refl; stays = stays-same g }
-
-onward-on : (f g h : Graph) → Onward f g → Onward g h → Onward f h
-onward-on f g h p q = record {
-  evolves = goes-on-later f g h p.evolves q.evolves;
-  rules = q.rules ∙ p.rules;
-  stays = stays-on f g h p.stays q.stays;
-}
-
-extends-same : (g h : Graph) → entries h.log ≡ entries g.log → Extends g h
-extends-same g h same = ([], same ∙ sym (append-nil (entries g.log)))
-
-extends-on : (f g h : Graph) → Extends f g → Extends g h → Extends f h
-extends-on f g h p q = (
-  p.0 ++ q.0,
-  q.1 ∙ ap (λ (es : List Entry). es ++ q.0) p.1 ∙ append_assoc (entries f.log) p.0 q.0,
-)
-
--- the promises of the later one are kept
-abbrev pub Goes : Graph → Graph → Type 0
-Goes f g = KeepsPromises g × (Onward f g × Extends f g)
-
-goes-same : (g : Graph) → KeepsPromises g → Goes g g
-goes-same g keeps = (keeps, (onward-same g, extends-same g g refl))
-
-goes-on : (f g h : Graph) → Goes f g → Goes g h → Goes f h
-goes-on f g h p q = (q.0, (onward-on f g h p.1.0 q.1.0, extends-on f g h p.1.1 q.1.1))
-
--- a change that makes no entry
-goes-step : (f g h : Graph) → Goes f g → AreFormed h × EachEvolves g h → h.rules ≡ g.rules → Aims g h
-    → entries h.log ≡ entries g.log → Goes f h
-goes-step f g h p grows rules aims same =
-    let on : Onward g h = record { evolves = grows.1; rules = rules; stays = aims.1 } in
-    goes-on f g h p (promises-on g h p.0 on same grows.0 aims.0, (on, extends-same g h same))
-
-with_thing-log : (g : Graph) (o : Val) (u : Thing) → (with_thing o u g).log ≡ g.log
-with_thing-log g o u = beside-objects (λ h. h.log ≡ g.log) g o u (λ ts. refl) refl
-
--- an entry that is true
-goes-entered : (f g : Graph) (e : Entry) → Goes f g → IsTrue g e → HowMade g e → Goes f (with_entry e g)
-goes-entered f g e p so how =
-    let h : Graph = with_entry e g in
-    let on : Onward g h = record { evolves = stays-later g; rules = refl; stays = stays-same g } in
-    goes-on f g h p (promises-more g e p.0 so how, (on, (e ∷ [], entered-log g.log e)))
-
--- ---- what rows keep
-
-abbrev keeping : Kept
-keeping = record {
-  cares = Unit {0};
-  owns = Unit {0};
-  to = Goes;
-  owed = λ b o g. Unit {0};
-  ended = λ b g o abrupt h. tt;
-  known = λ t s o g. Unit {0};
-  stays = λ f g p. goes-same g p.0;
-  goes_on = goes-on;
-  made = λ f g t new p.
-      goes-step f g (with_object t g) p (one-is-made g t p.0.formed (made-formed g t new)) refl
-      (made-aims g t new p.0.targets) refl;
-  moved = λ f g o t u at by p.
-      goes-step f g (with_thing o u g) p (change-grows g o t u at by p.0.formed) (with_thing-rules g o u)
-      (moved-aims (Unit {0}) g o t u at by p.0.targets) (ap entries (with_thing-log g o u));
-  symbols = λ f g ds p.
-      goes-step f g (record g { symbols = ds }) p (p.0.formed, stays-later g) refl (p.0.targets, stays-same g) refl;
-  scopes = λ f g ss p.
-      goes-step f g (record g { scopes = ss }) p (p.0.formed, stays-later g) refl (p.0.targets, stays-same g) refl;
-  log = λ f g i none p.
-      goes-step f g (record g { log = g.log ++ (i ∷ []) }) p (p.0.formed, stays-later g) refl
-      (p.0.targets, stays-same g) (quiet-log g.log i none);
-  job = λ f g s v p.
-      goes-step f g (with_job s (CallJob v) g) p (p.0.formed, stays-later g) refl (p.0.targets, stays-same g) refl;
-}
-
-nothing-owed : OwesNothing keeping
-nothing-owed b g o p = tt
+use Rattle.mb_growth.proofs.Promised.{IsTrue, HowMade}
+use Rattle.mb_growth.proofs.Truly.{silent-true, throw-silent, entry_made, began-within, true-between, ordinary-true}
+use Rattle.mb_growth.proofs.Keeping.{Goes, goes-same, goes-step, goes-entered, keeping, nothing-owed}
 
 -- ---- an entry is made of an object that is there
 
@@ -181,7 +95,7 @@ module _ (b : Graph) (keeps : KeepsPromises b) (a n : ℕ) (m : Method) (t : Thi
   kind-end : (f : ℕ) (kind : Kind) → t.kind ≡ kind → EndKind b a n m t kind (Means (Perform a m (Object n) a false) b f)
   kind-end f (Proxy target handler shape) e =
       proxy-kind b a n m t (Means (Perform a m (Object n) a false) b f) target handler shape
-      (proxy-entries-pass a a n target handler shape m false t b f at e keeps.targets fit keeps.formed)
+      (proxies-pass a a n target handler shape m false t b f at e keeps.targets fit keeps.formed)
   kind-end f (Gone shape) e =
       gone-kind b a n m t (Means (Perform a m (Object n) a false) b f) shape (gone-throws a n m t shape b f at e)
   kind-end f _ e =
@@ -229,6 +143,7 @@ module _ (b : Graph) (keeps : KeepsPromises b) (a n : ℕ) (m : Method) (t : Thi
               ∙ ap (λ (es : List Entry). take (length (entries b.log)) es) (sym longer);
           ended = sym (take-first (entries g.log) (e ∷ []))
               ∙ ap (λ (es : List Entry). take (length (entries g.log)) es) (sym (entered-log g.log e));
+          rules = sym goes.1.0.rules;
           evolves = goes.1.0.evolves;
           later = stays-later g;
           there = at;

@@ -24,4 +24,5 @@ pub mod Proxies
 pub mod Entered
 pub mod Promised
 pub mod Truly
+pub mod Keeping
 pub mod Lawful

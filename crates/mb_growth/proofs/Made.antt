@@ -1,5 +1,5 @@
 -- Objects as rows make them are formed.
-use Rattle.std.proofs.Common.{◌≡◌, ℕ, ◌+◌, Bool, true, false, List, [], ◌∷◌, Option, None, Some, refl, sym, ◌∙◌, subst}
+use Rattle.std.proofs.Common.{◌≡◌, ℕ, ◌+◌, true, false, List, [], ◌∷◌, None, Some, refl, sym, ◌∙◌, subst}
 use Rattle.std.specs.Prelude.{pos}
 use Rattle.std.specs.List.{IsDistinct}
 use Rattle.mb_desc.specs.declared.descriptor.Full.{Full}
@@ -17,7 +17,7 @@ use Rattle.mb_world.specs.Arrays.{index_key, length_key, with_length, put_elemen
 use Rattle.mb_model.specs.Operations.Calls.{target_is_array}
 use Rattle.mb_model.specs.Operations.Makings.{array_thing}
 use Rattle.mb_model.proofs.Kept.Changes.{put_each, is_other, IsNew, NewArray, NewOther, IsMade, Apart, ProxyOf}
-use Rattle.mb_growth.specs.Objects.{as_view, is_array, HasLength, IsFormed}
+use Rattle.mb_growth.specs.Objects.{as_view, is_array, IsFormed}
 use Rattle.mb_growth.proofs.Values.{key-sound, key-refl}
 use Rattle.mb_growth.proofs.Bridge.{with-is}
 use Rattle.mb_growth.proofs.Arrays.{other-length, number-other}

@@ -1,5 +1,5 @@
 -- Tasks must fit.
-use Rattle.std.proofs.Common.{◌≡◌, ℕ, zero, suc, Bool, true, false, List, [], ◌∷◌, None, Some, slice_get, refl, sym, ap, ◌∙◌, subst}
+use Rattle.std.proofs.Common.{◌≡◌, zero, suc, true, false, [], ◌∷◌, None, Some, refl, ap, ◌∙◌, subst}
 use Rattle.std.specs.List.{IsDistinct}
 use Rattle.mb_desc.specs.declared.descriptor.Desc.{Desc}
 use Rattle.mb_desc.specs.declared.descriptor.Full.{Full}
@@ -9,8 +9,8 @@ use Rattle.mb_desc.specs.Validate.{Validate}
 use Rattle.mb_view.specs.Views.{property_of}
 use Rattle.mb_world.specs.Value.{Val, Undefined, Null, Object}
 use Rattle.mb_world.specs.Key.{PropertyKey, Named, same_key}
-use Rattle.mb_world.specs.Graph.{Graph, Thing, Plain, Proxy, Hide, Property}
-use Rattle.mb_world.specs.Objects.{new_thing, with_thing}
+use Rattle.mb_world.specs.Graph.{Graph, Thing, Plain, Proxy, Hide}
+use Rattle.mb_world.specs.Objects.{new_thing}
 use Rattle.mb_world.specs.View.{Shown}
 use Rattle.mb_model.specs.Engine.{given, state_of}
 use Rattle.mb_model.specs.Task.{Prop, Walk, Perform, GetOwnProperty, DefineOwnProperty, Normal}
@@ -20,7 +20,7 @@ use Rattle.mb_growth.specs.Objects.{as_view, IsFormed}
 use Rattle.mb_growth.specs.Later.{AreFormed, EachEvolves}
 use Rattle.mb_growth.specs.Targets.{HasTargets}
 use Rattle.mb_growth.specs.Lawful.{KeepsPromises}
-use Rattle.mb_growth.specs.Needs.{BreaksAnObject, WalksMustFit, DefinitionsMustFit, ViewsMustFit}
+use Rattle.mb_growth.specs.Needs.{WalksMustFit, DefinitionsMustFit, ViewsMustFit}
 use Rattle.mb_growth.proofs.Made.{nothing-distinct}
 
 -- a graph with one object

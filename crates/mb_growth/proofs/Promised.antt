@@ -1,10 +1,8 @@
 -- What is promised of objects stays so as they evolve, and with one entry more.
-use Rattle.std.proofs.Common.{◌≡◌, ◌⊎◌, inl, inr, ℕ, zero, suc, ◌≤◌, ◌<◌, Bool, true, false, List, [], ◌∷◌, ◌++◌, map, take, length, Option, None, Some, slice_get, refl, sym, ap, ◌∙◌, subst, if◌then◌else◌, option_map, arith}
+use Rattle.std.proofs.Common.{◌≡◌, ◌⊎◌, inl, inr, ℕ, ◌≤◌, ◌<◌, Bool, true, false, List, [], ◌∷◌, ◌++◌, map, take, length, Option, None, Some, slice_get, refl, sym, ap, ◌∙◌, subst, if◌then◌else◌, option_map, arith}
 use Rattle.std.specs.List.{AllByRecursion}
 use Rattle.std.proofs.lemmas.List.{take-append-le}
 use Rattle.std.proofs.lemmas.Option.{same_Some, slice_get_within}
-use Rattle.mb_desc.specs.declared.descriptor.Full.{Full}
-use Rattle.mb_desc.specs.Descriptors.{is_configurable}
 use Rattle.mb_desc.specs.View.{View}
 use Rattle.mb_view.specs.Views.{property_of, KeepsFacts}
 use Rattle.mb_view.specs.Shown.{shown}
@@ -172,6 +170,7 @@ module _ (f g : Graph) (keeps : KeepsPromises f) (on : Onward f g) (same : entri
         gave = k.gave;
         began = k.began ∙ ap (λ (es : List Entry). take e.began es) (sym same);
         ended = k.ended ∙ ap (λ (es : List Entry). take place es) (sym same);
+        rules = k.rules ∙ sym on.rules;
         evolves = k.evolves;
         later = goes-on-later k.after f g k.later on.evolves;
         there = k.there;
@@ -274,6 +273,7 @@ module _ (g : Graph) (e : Entry) (keeps : KeepsPromises g) (so : IsTrue g e) (ho
             gave = k.gave;
             began = k.began ∙ take-more x.began (omega (arith, within, first));
             ended = k.ended ∙ take-more place (omega (arith, within));
+            rules = k.rules;
             evolves = k.evolves;
             later = k.later;
             there = k.there;

@@ -13,7 +13,7 @@ use Rattle.mb_world.specs.View.{Shown, is_cut, owner_or}
 use Rattle.mb_model.specs.Engine.{Gives, Spent, by, exec, given}
 use Rattle.mb_model.specs.Task.{Perform, Answer, Value, Method, GetPrototypeOf, SetPrototypeOf, IsExtensible, PreventExtensions, GetOwnProperty, DefineOwnProperty, HasProperty, Get, Set, Delete, OwnPropertyKeys, Call, Construct, Outcome, Normal}
 use Rattle.mb_model.specs.Fitting.{FitsMethod}
-use Rattle.mb_model.specs.Writing.{Does, ◌>>=◌, give, answer, pass, type_error}
+use Rattle.mb_model.specs.Writing.{Does, ◌>>=◌, give, answer, type_error}
 use Rattle.mb_model.specs.Operations.Calls.{get, list_of}
 use Rattle.mb_model.specs.Operations.Makings.{make_array}
 use Rattle.mb_model.specs.Operations.Descriptors.{todesc, fromdesc}
@@ -31,7 +31,7 @@ use Rattle.mb_model.proofs.Kept.OperationsMakings.{keeps-make_array}
 use Rattle.mb_model.proofs.Kept.ObjectsProxies.{keeps-trap_value, keeps-trap_flag}
 use Rattle.mb_model.proofs.Kept.Rows.{EndOwed, exec-owed, entering-holds}
 use Rattle.mb_growth.specs.Later.{AreFormed}
-use Rattle.mb_growth.specs.Answered.{EntryPasses, PassesAsItEnds, PassesAtMoment, EndBetween, ProxyEntriesPass}
+use Rattle.mb_growth.specs.Answered.{EntryPasses, PassesAsItEnds, PassesAtMoment, EndBetween, ProxyEntriesPass, ProxiesPass}
 use Rattle.mb_growth.proofs.Graphs.{stays-later}
 use Rattle.mb_growth.proofs.Reading.{Reaches, reaches-on, Owes, owes-now, answering, does-so}
 use Rattle.mb_growth.proofs.Tails.{gets-give, gets-unless, gets-answer, Owed, IsTarget, later-target, gets-judged, gets-prototype_said, gets-set_prototype_said, gets-extensible_said, gets-prevent_said, gets-own_said_absent, gets-has_said, gets-delete_said}
@@ -248,7 +248,11 @@ given-between s v n p k m enters t u handler shape b f at e owner target fit for
     (row-owes s v n p k m t u handler shape b at e owner target formed fit finished b along (λ a g q owed. (q, owed))))))
 
 pub proxy-entries-pass : ProxyEntriesPass
-proxy-entries-pass s v n target handler shape m enters t graph zero at e has fit formed = tt
-proxy-entries-pass s v n target handler shape m enters t graph (suc f) at e has fit formed =
+proxy-entries-pass s v n target handler shape m enters t u graph zero at e there ordinary fit formed = tt
+proxy-entries-pass s v n target handler shape m enters t u graph (suc f) at e there ordinary fit formed =
+    given-between s v n (owner_or s t.owner) target m enters t u handler shape graph f at e refl (there, ordinary) fit formed
+
+pub proxies-pass : ProxiesPass
+proxies-pass s v n target handler shape m enters t graph fuel at e has fit formed =
     let u = has n t target handler shape at e in
-    given-between s v n (owner_or s t.owner) target m enters t u.0 handler shape graph f at e refl (u.1, u.2) fit formed
+    proxy-entries-pass s v n target handler shape m enters t u.0 graph fuel at e u.1 u.2 fit formed

@@ -1,27 +1,22 @@
 -- What is known of tasks that read an object, and what is owed of a Proxy's method.
-use Rattle.std.proofs.Common.{◌≡◌, ℕ, zero, suc, Bool, true, false, not, List, [], ◌∷◌, Option, None, Some, slice_get, refl, sym, ap, ◌∙◌, subst}
-use Rattle.std.proofs.lemmas.Option.{same_Some}
-use Rattle.mb_desc.specs.declared.descriptor.Full.{Full}
+use Rattle.std.proofs.Common.{◌≡◌, ℕ, suc, Bool, true, false, not, Option, Some, refl, sym, ◌∙◌, subst}
 use Rattle.mb_desc.specs.View.{View}
-use Rattle.mb_world.specs.Value.{Val, Undefined, Null, Truth, Whole, Text, Symbol, Object, BuiltIn}
+use Rattle.mb_world.specs.Value.{Val}
 use Rattle.mb_world.specs.Key.{PropertyKey}
-use Rattle.mb_world.specs.Graph.{Graph, Thing, Kind, Proxy, Gone, Rule, SaidNothing, SaidThrow}
+use Rattle.mb_world.specs.Graph.{Graph, Thing, Kind, Proxy, Gone}
 use Rattle.mb_world.specs.Objects.{thing_at, with_thing, is_proxy_kind}
 use Rattle.mb_world.specs.View.{shown_property, shown_keys, Shown, is_cut}
 use Rattle.mb_model.specs.Engine.{Gives, Spent, given}
-use Rattle.mb_model.specs.Task.{Task, Evaluate, Loop, Chain, Walk, Perform, Enter, Run, Access, Visit, Answer, Nothing, Value, Flag, Prop, Keys, Method, GetPrototypeOf, SetPrototypeOf, IsExtensible, PreventExtensions, GetOwnProperty, DefineOwnProperty, HasProperty, Get, Set, Delete, OwnPropertyKeys, Call, Construct, Outcome, Normal, Throw, Return, Break, Continue}
-use Rattle.mb_model.specs.Fitting.{FitsMethod, Fits}
-use Rattle.mb_model.specs.Writing.{Row, Does, ◌>>=◌, give, answer, pass, unless_type_error, with_object}
-use Rattle.mb_model.specs.Objects.Methods.{list_keys}
+use Rattle.mb_model.specs.Task.{Task, Evaluate, Loop, Chain, Walk, Perform, Enter, Run, Access, Visit, Answer, Value, Flag, Prop, Keys, Method, GetPrototypeOf, SetPrototypeOf, IsExtensible, PreventExtensions, GetOwnProperty, DefineOwnProperty, HasProperty, Get, Set, Delete, OwnPropertyKeys, Call, Construct, Outcome, Normal, Throw, Return, Break, Continue}
+use Rattle.mb_model.specs.Fitting.{FitsMethod}
+use Rattle.mb_model.specs.Writing.{◌>>=◌, give, unless_type_error}
 use Rattle.mb_model.specs.Meaning.{perform_kind, perform_thing, perform_row, finished, entries_made, row, Ends, Means}
 use Rattle.mb_model.specs.Trace.Entries.{makes_entry, method_noted}
-use Rattle.mb_model.proofs.Kept.Changes.{Lasts}
-use Rattle.mb_model.proofs.Kept.Words.{Kept, IsAbrupt, Along, Holds, Gets, At, along-stays, along-on, beside-objects, keeps-ends}
-use Rattle.mb_model.proofs.Kept.Rows.{IsPlain, EndKnown, DoesSo, given-known}
-use Rattle.mb_growth.specs.Objects.{IsFormed}
-use Rattle.mb_growth.specs.Later.{AreFormed, EachEvolves}
+use Rattle.mb_model.proofs.Kept.Words.{Kept, IsAbrupt, beside-objects}
+use Rattle.mb_model.proofs.Kept.Rows.{EndKnown, DoesSo, given-known}
+use Rattle.mb_growth.specs.Later.{AreFormed}
 use Rattle.mb_growth.specs.Answered.{EntryPasses, PassesAtMoment, EndPasses, PassesBetween}
-use Rattle.mb_growth.proofs.Graphs.{stays-later, goes-on-later}
+use Rattle.mb_growth.proofs.Graphs.{stays-later}
 use Rattle.mb_growth.proofs.Runs.{Grows, grows-on, growing}
 use Rattle.mb_growth.proofs.Ends.{RowEnds, TaskEnds, ends-any, ends-entering, ends-pays, means-ends}
 use Rattle.mb_growth.proofs.BuiltIns.{ordinary-entries-pass}

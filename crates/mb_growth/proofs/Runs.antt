@@ -1,12 +1,9 @@
 -- Along the meaning each object evolves.
-use Rattle.std.proofs.Common.{◌≡◌, ℕ, Some, refl, sym, ◌∙◌, subst}
-use Rattle.mb_desc.specs.Descriptors.{IsOfOneKind}
+use Rattle.std.proofs.Common.{◌≡◌, Some, refl, sym, ◌∙◌, subst}
 use Rattle.mb_world.specs.Value.{Val, Undefined, Null, Truth, Whole, Text, Symbol, Object, BuiltIn}
 use Rattle.mb_world.specs.Graph.{Graph, Thing, Kind}
 use Rattle.mb_world.specs.Objects.{thing_at, with_thing, is_proxy_kind}
 use Rattle.mb_model.specs.Engine.{state_of}
-use Rattle.mb_model.specs.Task.{Task}
-use Rattle.mb_model.specs.Fitting.{Fits}
 use Rattle.mb_model.specs.Writing.{with_object}
 use Rattle.mb_model.specs.Operations.Calls.{target_is_array}
 use Rattle.mb_model.specs.Meaning.{Means}

@@ -1,11 +1,11 @@
 -- What a side sees at a key of its view, in which the keys stand in the order of ownKeys.
-use Rattle.std.proofs.Common.{◌≡◌, ℕ, Bool, true, false, ◌||◌, not, nat_lt, List, [], ◌∷◌, ◌++◌, map, Option, None, Some, is_some, is_none, filter_map, refl, sym, ap, ◌∙◌, if◌then◌else◌}
+use Rattle.std.proofs.Common.{◌≡◌, ℕ, Bool, true, false, ◌||◌, nat_lt, List, [], ◌∷◌, ◌++◌, map, Option, None, Some, is_some, filter_map, refl, sym, ap, ◌∙◌, if◌then◌else◌}
 use Rattle.std.specs.List.{list_any}
-use Rattle.std.specs.Map.{keys_of, lookup}
+use Rattle.std.specs.Map.{lookup}
 use Rattle.mb_desc.specs.declared.descriptor.Full.{Full}
 use Rattle.mb_view.specs.Views.{property_of}
 use Rattle.mb_world.specs.Value.{Val}
-use Rattle.mb_world.specs.Key.{PropertyKey, Named, SymbolKey, same_key, index_of, index_of_key, put_index, with_index, indices, is_name, names_only, is_symbol, symbols_only, keys_in_order}
+use Rattle.mb_world.specs.Key.{PropertyKey, Named, SymbolKey, same_key, index_of, put_index, indices, names_only, symbols_only, keys_in_order}
 use Rattle.mb_world.specs.Graph.{Graph, Thing, RuleKind, Hide, ReadOnly, Substitute, Revoke, Property}
 use Rattle.mb_world.specs.Objects.{find_property, property_keys, own_property}
 use Rattle.mb_world.specs.View.{shown_by, shown_property, key_rule, with_key, Shown}

@@ -1,11 +1,11 @@
 -- What a trap's checks let pass is owed: what they ask beside the own property.
-use Rattle.std.proofs.Common.{◌≡◌, ℕ, Bool, true, false, not, ◌||◌, List, [], Option, None, Some, slice_get, refl, sym, ap, ◌∙◌, subst}
+use Rattle.std.proofs.Common.{◌≡◌, ℕ, Bool, true, false, not, ◌||◌, List, [], Option, None, Some, refl, sym, ap, ◌∙◌, subst}
 use Rattle.std.proofs.lemmas.Option.{same_Some}
 use Rattle.mb_desc.specs.declared.descriptor.Full.{Full}
 use Rattle.mb_desc.specs.Descriptors.{is_configurable}
 use Rattle.mb_check.specs.declared.verdict.Verdict.{Verdict}
 use Rattle.mb_check.specs.declared.verdict.Verdict.TheVariants.{Pass, Broken}
-use Rattle.mb_check.specs.Rules.{same_prototype, absent}
+use Rattle.mb_check.specs.Rules.{same_prototype}
 use Rattle.mb_view.specs.Passing.{MayLack}
 use Rattle.mb_world.specs.declared.cell.ErrorKind.TheVariants.{TypeError}
 use Rattle.mb_world.specs.Value.{Val, Undefined, Object, is_object, is_null, same_value, Null, Truth, Whole, Text, Symbol, BuiltIn}
@@ -13,7 +13,7 @@ use Rattle.mb_world.specs.Key.{PropertyKey, same_key}
 use Rattle.mb_world.specs.Graph.{Graph, Thing, Rule}
 use Rattle.mb_world.specs.Objects.{thing_at, is_proxy_kind}
 use Rattle.mb_world.specs.View.{shown_property, shown_keys, Shown}
-use Rattle.mb_model.specs.Engine.{by, given}
+use Rattle.mb_model.specs.Engine.{given}
 use Rattle.mb_model.specs.Task.{Task, Answer, Value, Flag, Prop, Method, GetPrototypeOf, SetPrototypeOf, IsExtensible, PreventExtensions, GetOwnProperty, HasProperty, Delete, OwnPropertyKeys, Outcome, Normal, Throw, Return, Break, Continue}
 use Rattle.mb_model.specs.Writing.{Row, Does, ◌>>=◌, give, answer, pass, value_in, flag_in, property_in, keys_in, perform, unless_type_error}
 use Rattle.mb_model.specs.Objects.Rules as rule

@@ -7,8 +7,6 @@ use Rattle.mb_world.specs.Objects.{thing_at, thing_is, with_thing, is_proxy_kind
 use Rattle.mb_model.specs.Engine.{Gives, Spent, state_of}
 use Rattle.mb_model.specs.Meaning.{Ends, Means}
 use Rattle.mb_model.specs.Writing.{with_object}
-use Rattle.mb_model.specs.Operations.Makings.{array_thing}
-use Rattle.mb_model.specs.BuiltIns.ProxyMaking.{may_be_target}
 use Rattle.mb_model.specs.Story.{desk, job_ends, first_graph}
 use Rattle.mb_model.proofs.Kept.Changes.{has_target, is_other, IsNew, NewArray, NewOther, IsMade, Apart, ProxyOf, Change, ProxyStays, proxy-stays}
 use Rattle.mb_model.proofs.Kept.Words.{Kept}

@@ -1,6 +1,6 @@
 -- What is there after a definition, which it would accept again.
 use Rattle.std.proofs.Common.{◌≡◌, ℕ, ◌+◌, Bool, true, false, not, ◌&&◌, nat_le, List, [], ◌∷◌, Option, None, Some, refl, sym, ap, ◌∙◌, subst, if◌then◌else◌}
-use Rattle.std.specs.Prelude.{ℤ, max, pos, negsuc, reverse}
+use Rattle.std.specs.Prelude.{max, pos, reverse}
 use Rattle.mb_desc.specs.declared.descriptor.Desc.{Desc}
 use Rattle.mb_desc.specs.declared.descriptor.Full.{Full}
 use Rattle.mb_desc.specs.declared.descriptor.Full.TheVariants.{Datum}
@@ -15,7 +15,7 @@ use Rattle.mb_world.specs.Key.{PropertyKey, same_key, index_of_key, indices}
 use Rattle.mb_world.specs.Graph.{Thing, Kind, Array, Property}
 use Rattle.mb_world.specs.Objects.{find_property, remove_property, property_keys, own_property, with_property}
 use Rattle.mb_world.specs.Ordinary.{Defined, Refused, Becomes, Faulty, validated, defined_as, ordinary_defined}
-use Rattle.mb_world.specs.Arrays.{length_key, length_limit, array_length, length_in, with_length, shrink, indices_from, shrunk, cut_to, element_as, element_defined, length_as, without_writable, length_below, as_length, length_within, length_given, length_defined, array_defined_at, defined_by_kind, defined}
+use Rattle.mb_world.specs.Arrays.{length_key, length_limit, array_length, length_in, shrink, indices_from, shrunk, cut_to, element_as, element_defined, length_as, without_writable, length_below, length_within, length_given, length_defined, array_defined_at, defined_by_kind, defined}
 use Rattle.mb_growth.specs.Objects.{as_view, is_array, HasLength, IsFormed}
 use Rattle.mb_growth.proofs.Values.{key-sound, key-refl, value-refl}
 use Rattle.mb_growth.proofs.Bridge.{own-is, with-is}

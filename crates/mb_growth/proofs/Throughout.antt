@@ -1,5 +1,5 @@
 -- What every job keeps holds throughout a run.
-use Rattle.std.proofs.Common.{◌≡◌, ℕ, zero, suc, ◌+◌, ◌%◌, Bool, true, false, List, [], ◌∷◌, length, Option, None, Some, slice_get, slice_set}
+use Rattle.std.proofs.Common.{ℕ, zero, suc, ◌+◌, ◌%◌, Bool, true, false, List, [], ◌∷◌, length, Option, None, Some, slice_get, slice_set}
 use Rattle.mb_world.specs.Value.{Val}
 use Rattle.mb_world.specs.Graph.{Graph, Program, Rule, Job}
 use Rattle.mb_model.specs.Engine.{Gives, Spent, state_of}

@@ -1,5 +1,5 @@
 -- The entry that a method makes contradicts nothing, and what it tells is so.
-use Rattle.std.proofs.Common.{◌≡◌, ℕ, zero, suc, ◌≤◌, Bool, true, false, ◌&&◌, not, List, [], ◌∷◌, ◌++◌, map, take, length, Option, None, Some, slice_get, refl, sym, ap, ◌∙◌, subst, option_map, append-nil, arith}
+use Rattle.std.proofs.Common.{◌≡◌, ℕ, ◌≤◌, true, false, List, [], ◌∷◌, ◌++◌, map, take, length, Option, None, Some, slice_get, refl, sym, ap, ◌∙◌, subst, option_map, append-nil, arith}
 use Rattle.std.specs.List.{AllByRecursion}
 use Rattle.std.proofs.lemmas.Option.{same_Some}
 use Rattle.mb_desc.specs.View.{View}
@@ -20,7 +20,7 @@ use Rattle.mb_model.specs.Trace.Entries.{key_of_method, given_of, said_outcome, 
 use Rattle.mb_model.specs.Trace.Lawful.{deed_by, deed_of}
 use Rattle.mb_model.proofs.Kept.Changes.{ProxyStays, has_target}
 use Rattle.mb_growth.specs.Later.{IsLater}
-use Rattle.mb_growth.specs.Answered.{EntryPasses, PassesAsItEnds, PassesAtMoment, PassesBetween}
+use Rattle.mb_growth.specs.Answered.{EntryPasses, PassesAtMoment, PassesBetween}
 use Rattle.mb_growth.specs.Lawful.{KeepsPromises}
 use Rattle.mb_growth.proofs.Values.{key-sound, key-refl, value-sound, value-refl}
 use Rattle.mb_growth.proofs.Steps.{later-refl}

@@ -1,10 +1,10 @@
 -- Along the turns of a run each object evolves.
-use Rattle.std.proofs.Common.{◌≡◌, ℕ, zero, suc, ◌+◌, ◌%◌, Bool, true, false, List, [], ◌∷◌, length, Option, None, Some, slice_get, slice_set, refl, subst}
-use Rattle.mb_world.specs.Graph.{Graph, Thing, Program, Rule, Job, Script, Call as CallJob}
+use Rattle.std.proofs.Common.{◌≡◌, ℕ, zero, suc, ◌+◌, ◌%◌, Bool, true, false, List, [], ◌∷◌, length, Option, None, Some, slice_get, slice_set, subst}
+use Rattle.mb_world.specs.Graph.{Graph, Job, Script, Call as CallJob}
 use Rattle.mb_model.specs.Engine.{Gives, Spent}
 use Rattle.mb_model.specs.Task.{Normal, Throw, Return, Break, Continue}
 use Rattle.mb_model.specs.Meaning.{Ends}
-use Rattle.mb_model.specs.Story.{Stage, Letter, Side, Cut, turn_ended, job_ends, after, take_turn, one_turn, one_letter, letters, is_spent, is_over, rounds, desk, first_graph, first_stage, enough, Story}
+use Rattle.mb_model.specs.Story.{Stage, Letter, Side, Cut, turn_ended, job_ends, after, take_turn, one_turn, one_letter, letters, is_spent, is_over, rounds, desk, first_stage, enough}
 use Rattle.mb_model.proofs.Kept.Rows.{EndHolds, given-holds, means-holds}
 use Rattle.mb_growth.specs.Objects.{IsFormed}
 use Rattle.mb_growth.specs.Later.{AreFormed}

@@ -63,9 +63,16 @@ EndBetween p o m before (Gives q after fuel) = PassesBetween p o m before q afte
 EndBetween p o m before (Spent after fuel) = Unit {0}
 
 -- a method of a script-made Proxy passes against what the Proxy's owner sees of the target at some moment before it
--- ends; that targets are there and are no Proxies holds wherever a run comes (RunsHaveTargets)
+-- ends, where the target is there and is no script-made Proxy
 abbrev pub ProxyEntriesPass : Type 0
-ProxyEntriesPass = (s v n : ℕ) (target handler : Val) (shape : Shape) (m : Method) (enters : Bool) (t : Thing)
+ProxyEntriesPass = (s v n : ℕ) (target handler : Val) (shape : Shape) (m : Method) (enters : Bool) (t u : Thing)
+    (graph : Graph) (fuel : ℕ) → slice_get graph.objects n ≡ Some t → t.kind ≡ Proxy target handler shape
+    → thing_at graph target ≡ Some u → is_proxy_kind u.kind ≡ false → FitsMethod m → AreFormed graph
+    → EndBetween (owner_or s t.owner) target m graph (Means (Perform s m (Object n) v enters) graph fuel)
+
+-- so it is of each Proxy of a graph in which all targets are so, as they are wherever a run comes
+abbrev pub ProxiesPass : Type 0
+ProxiesPass = (s v n : ℕ) (target handler : Val) (shape : Shape) (m : Method) (enters : Bool) (t : Thing)
     (graph : Graph) (fuel : ℕ) → slice_get graph.objects n ≡ Some t → t.kind ≡ Proxy target handler shape
     → HasTargets graph → FitsMethod m → AreFormed graph
     → EndBetween (owner_or s t.owner) target m graph (Means (Perform s m (Object n) v enters) graph fuel)

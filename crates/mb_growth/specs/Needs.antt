@@ -1,5 +1,5 @@
 -- Where a task doesn't fit, an object may be changed that can't, or an entry may promise what its side doesn't see.
-use Rattle.std.specs.Prelude.{ℕ, true, false}
+use Rattle.std.specs.Prelude.{true, false}
 use Rattle.mb_desc.specs.declared.descriptor.Desc.{Desc}
 use Rattle.mb_world.specs.Value.{Val, Undefined, Object}
 use Rattle.mb_world.specs.Key.{PropertyKey}

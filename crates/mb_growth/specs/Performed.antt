@@ -1,5 +1,5 @@
 -- Each entry of a trace was made by a method whose answer passed (ECMA-262, 6.1.7.3 and 10.5).
-use Rattle.std.specs.Prelude.{◌≡◌, ◌⊎◌, ℕ, List, false, Some, slice_get, take}
+use Rattle.std.specs.Prelude.{◌≡◌, ◌⊎◌, ℕ, false, Some, slice_get, take}
 use Rattle.mb_world.specs.declared.entry.Op.TheVariants.{Collect}
 use Rattle.mb_world.specs.Value.{Val, Object}
 use Rattle.mb_world.specs.Graph.{Graph, Thing, Kind, Proxy, Gone, Entry}
@@ -19,8 +19,8 @@ KindPasses s n t (Proxy target handler shape) m before q after =
 KindPasses s n t (Gone shape) m before q after = (v : Val) × (q ≡ Throw v)
 KindPasses s n t _ m before q after = PassesAtMoment s (Object n) m t before q after
 
--- the entry at this place says what a method gave that a side performed by its own view: as it began, so many entries
--- were complete; as it ended, those that stand before the place
+-- the entry at this place says what a method gave that a side performed by its own view, under the same policy: as it
+-- began, so many entries were complete; as it ended, those that stand before the place
 pub record IsOfMethod (g : Graph) (place : ℕ) (e : Entry) : Type 0 where
   pub method : Method
   pub outcome : Outcome
@@ -33,6 +33,7 @@ pub record IsOfMethod (g : Graph) (place : ℕ) (e : Entry) : Type 0 where
   pub gave : Means (Perform e.side method (Object e.object) e.side false) before fuel ≡ Gives outcome after left
   pub began : entries before.log ≡ take e.began (entries g.log)
   pub ended : entries after.log ≡ take place (entries g.log)
+  pub rules : before.rules ≡ g.rules
   pub evolves : EachEvolves before after
   pub later : EachEvolves after g
   pub there : slice_get before.objects e.object ≡ Some thing
@@ -42,6 +43,7 @@ pub record IsOfMethod (g : Graph) (place : ℕ) (e : Entry) : Type 0 where
 abbrev pub IsOfAccess : Entry → Type 0
 IsOfAccess e = (p : ℕ) × (e.op ≡ Collect p)
 
+-- each entry is of the one or of the other
 abbrev pub ArePerformed : Graph → Type 0
 ArePerformed g = (place : ℕ) (e : Entry) → slice_get (entries g.log) place ≡ Some e
     → IsOfMethod g place e ⊎ IsOfAccess e

@@ -1,5 +1,5 @@
 // The laws of single changes, and of graphs.
-ghost use Rattle.mb_growth.specs.Answered.{OrdinaryEntriesPass, ProxyEntriesPass, ChecksTell};
+ghost use Rattle.mb_growth.specs.Answered.{OrdinaryEntriesPass, ProxyEntriesPass, ProxiesPass, ChecksTell};
 ghost use Rattle.mb_growth.specs.Lawful.{TasksKeepPromises, FirstKeepsPromises, TurnsKeepPromises, LettersKeepPromises, RunsKeepPromises, RunsPass, RunsAreLawful};
 ghost use Rattle.mb_growth.specs.Needs.{WalksMustFit, DefinitionsMustFit, ViewsMustFit};
 ghost use Rattle.mb_growth.specs.Targets.{TasksKeepTargets, FirstHasTargets, TurnsKeepTargets, LettersKeepTargets, RunsHaveTargets};
@@ -76,8 +76,10 @@ pub fn tasks_must_fit()
 
 /// What a method of a script-made Proxy answers passes the checks against what the Proxy's owner sees of the target at
 /// some moment from its begin to its end: as the checks read it, or, without a trap, at that of the target's method.
+/// That the target is there and is no script-made Proxy holds wherever a run comes (`targets_are_no_proxies`).
 pub fn proxy_entries_pass()
-    ensures { ProxyEntriesPass }
+    ensures one { ProxyEntriesPass }
+    ensures all { ProxiesPass }
 {}
 
 /// The trace of every run is lawful: what each entry answers passed at its moment, no entry contradicts what its side
