@@ -14,7 +14,7 @@ use Rattle.mb_desc.specs.declared.descriptor.Full.TheVariants.{Datum, Accessor}
 use Rattle.mb_desc.specs.Descriptors.{denies, is_writable, is_accessor_descriptor}
 use Rattle.mb_desc.specs.Validate.{Validate}
 use Rattle.mb_desc.specs.Values.{equal}
-use Rattle.mb_props.specs.Table.{same_key, found, insert_entry, HasDistinctKeys}
+use Rattle.mb_props.specs.Table.{same_key, found, insert_entry}
 use Rattle.mb_props.specs.KeyOrder.{index_of}
 use Rattle.std.specs.Map.{keys_of}
 use Rattle.mb_world.specs.declared.cell.Cell.{Cell}
@@ -42,7 +42,7 @@ use Rattle.mb_array.specs.machine.Cutting.{index_in, is_from, AreIndicesFrom, Cu
 use Rattle.mb_array.specs.machine.Done.{CanDefine, HasCell, LengthIs, Done, asked_length, length_or_range}
 use Rattle.mb_array.proofs.Changes.{cell-changed, change-none, change-same, table-there, table-changed, only-table, change-again}
 use Rattle.mb_ordinary.proofs.Spelled.{key-index}
-use Rattle.mb_array.proofs.Shrinking.{shrunk_of, cut-is, all-from, no-name, found-cut, cut-whole, All-cut}
+use Rattle.mb_array.proofs.Shrinking.{shrunk_of, cut-is, no-name, found-cut, cut-whole, All-cut}
 use Rattle.mb_array.proofs.Known.{table-known, stored-known}
 
 left-same : (x : Outcome) (t : Thing) → changes x ≡ false → left x t ≡ t
@@ -274,17 +274,17 @@ module _ (d : Data) (o : ObjId) (h : HasCell d o) where
       writable-in (Datum x a b c) = refl
       writable-in (Accessor g s b c) = refl
 
-      pub shorter-cut : (p : Full Value) (from : List Key) (d1 d2 : Data) → accepted d o lk (put_off desc) ≡ Some p → HasDistinctKeys h.cell.props → AreIndicesFrom m (keys_of h.cell.props) from → d1 ≡ change_cell d o (with_table (cut_of (reverse from) m h.cell.props).left) → d2 ≡ change_cell d1 o (put_in lk (Datum (v.Whole (pos (cut_of (reverse from) m h.cell.props).length)) (is_writable p && not (denies desc.writable)) false false)) → (Answer (nat_eq (cut_of (reverse from) m h.cell.props).length m) ≡ told (on_object shorter (names_of d) lk desc (cell_at d o))) × Done d o desc (on_object shorter (names_of d) lk desc (cell_at d o)) d2
-      shorter-cut p from d1 d2 some distinct indices first second =
+      pub shorter-cut : (p : Full Value) (from : List Key) (d1 d2 : Data) → accepted d o lk (put_off desc) ≡ Some p → AreIndicesFrom d m h.cell.props from → d1 ≡ change_cell d o (with_table (cut_of (reverse from) m h.cell.props).left) → d2 ≡ change_cell d1 o (put_in lk (Datum (v.Whole (pos (cut_of (reverse from) m h.cell.props).length)) (is_writable p && not (denies desc.writable)) false false)) → (Answer (nat_eq (cut_of (reverse from) m h.cell.props).length m) ≡ told (on_object shorter (names_of d) lk desc (cell_at d o))) × Done d o desc (on_object shorter (names_of d) lk desc (cell_at d o)) d2
+      shorter-cut p from d1 d2 some indices first second =
           let x : Cut = cut_of (reverse from) m h.cell.props in
           let b : Bool = is_writable p && not (denies desc.writable) in
           let known : List Value = known_values h.cell.props desc in
           let put : Cell → Cell = put_in lk (Datum (v.Whole (pos x.length)) b false false) in
-          let back : All (λ k. is_from m k ≡ true) (reverse from) = All-permutation (λ k. is_from m k ≡ true) from (reverse from) (IsPermutation-reverse from) (all-from m (keys_of h.cell.props) from indices) in
+          let back : All (λ k. is_from m k ≡ true) (reverse from) = All-permutation (λ k. is_from m k ≡ true) from (reverse from) (IsPermutation-reverse from) indices.high in
           let whole : (cut_of (reverse from) m h.cell.props).whole ≡ nat_eq (cut_of (reverse from) m h.cell.props).length m = cut-whole (reverse from) m h.cell.props back in
           let done = changed desc (on_object shorter (names_of d) lk desc (cell_at d o)) (cut_to (shrunk_of (names_of d) x) b the_object) x.whole (λ c. put (with_table x.left c)) d2
           (shorter-is (Some p) some
-          ∙ ap (λ z. Becomes (cut_to z (is_writable (full_in (names_of d) p) && not (denies desc.writable)) the_object) z.whole) (cut-is d h.distinct m the_object h.cell.props from refl h.within.props_in distinct indices)
+          ∙ ap (λ z. Becomes (cut_to z (is_writable (full_in (names_of d) p) && not (denies desc.writable)) the_object) z.whole) (cut-is d h.distinct m the_object h.cell.props from refl h.within.props_in indices)
           ∙ ap (λ z. Becomes (cut_to (shrunk_of (names_of d) x) (z && not (denies desc.writable)) the_object) x.whole) (writable-in p))
           (second ∙ ap (λ z. change_cell z o put) first ∙ change-again d o h.cell h.there (with_table x.left) put)
           refl

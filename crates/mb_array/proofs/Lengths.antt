@@ -21,7 +21,8 @@ use Rattle.mb_world.specs.Ids.{TextIn, KeyIn, PropertyIn}
 use Rattle.mb_world.specs.Image.{names_of, key_in}
 use Rattle.mb_world.proofs.Arrays.{place-found, place-new, length-no-index}
 use Rattle.mb_world.proofs.SameKeys.{own-equal}
-use Rattle.mb_array.specs.Define.{HasItsLength}
+use Rattle.mb_world.specs.Formed.{IsBelow}
+use Rattle.mb_array.specs.Define.{HasItsLength, table_in}
 use Rattle.mb_array.specs.machine.Done.{HasCell, LengthIs, length_parts}
 
 -- a key that a table has is one of the world
@@ -56,4 +57,4 @@ length-is d o h l id e r q =
     let parts : length_parts (Some (Datum (v.Whole (pos l.length)) l.writable false false)) ≡ (l.length, l.writable) = rw small refl in
     let is : r ≡ (l.length, l.writable) = q ∙ ap length_parts at ∙ parts in
     subst (λ (p : ℕ × Bool). LengthIs d o key p.0 p.1) (sym is)
-    (record { cell = h; key_is = k; named = named d id e; key_there = key-there d id e; there = ap (property_in key) h.there ∙ at; limit = l.limit })
+    (record { cell = h; key_is = k; named = named d id e; key_there = key-there d id e; there = ap (property_in key) h.there ∙ at; limit = l.limit; above = subst (All (λ p. IsBelow l.length p.0)) (sym (ap table_in h.there)) l.above })

@@ -4,3 +4,5 @@ mod Known
 mod Doing
 mod Stepping
 mod Lengths
+mod Listing
+mod Tried

@@ -1,12 +1,10 @@
 -- What a table loses past a shorter length is what the object loses that it stands for.
 use Rattle.std.proofs.Common.{◌≡◌, ℕ, suc, ◌+◌, ◌-◌, ◌^◌, ◌<◌, ◌≤◌, Bool, true, false, not, ◌&&◌, nat_eq, nat_le, List, [], ◌∷◌, ◌++◌, map, reverse, Option, Some, None, option_map, if◌then◌else◌, refl, sym, ap, ◌∙◌, arith, true≢false, subst, get_or}
 use Rattle.std.specs.Prelude.{All}
-use Rattle.std.specs.List.{filter, IsDistinct}
+use Rattle.std.specs.List.{filter}
 use Rattle.std.specs.Map.{keys_of, lookup, remove_entry}
-use Rattle.mb_props.proofs.Order.{filter-same, filter-both}
-use Rattle.mb_props.specs.KeyOrder.{array_indices}
 use Rattle.std.proofs.lemmas.Bool.{leb-true, ne_eqb, eq-eqb}
-use Rattle.std.proofs.lemmas.List.Elements.{All-cons, All-head, All-tail, All-filter, filter_passes}
+use Rattle.std.proofs.lemmas.List.Elements.{All-cons, All-head, All-tail}
 use Rattle.std.proofs.lemmas.List.Sorted.{All-permutation, IsPermutation-reverse}
 use Rattle.std.proofs.lemmas.List.{map-append}
 use Rattle.std.proofs.lemmas.Grind.{reverse_onto}
@@ -19,7 +17,7 @@ use Rattle.mb_desc.specs.declared.descriptor.Full.TheVariants.{Datum, Accessor}
 use Rattle.mb_text.specs.Index.{index_of as spelled_index}
 use Rattle.mb_text.specs.Texts.{AreDistinct, text_at}
 use Rattle.mb_text.proofs.Indices.{index_of-le}
-use Rattle.mb_props.specs.Table.{same_key, found, without, HasDistinctKeys}
+use Rattle.mb_props.specs.Table.{same_key, found, without}
 use Rattle.mb_props.specs.KeyOrder.{index_of, is_array_index}
 use Rattle.mb_world.specs.Graph.{Thing}
 use Rattle.mb_world.specs.Objects.{property_keys, find_property}
@@ -32,7 +30,7 @@ use Rattle.mb_world.specs.Image.{Names, names_of, full_in, key_in, property_in}
 use Rattle.mb_world.proofs.Worlds.{All-without}
 use Rattle.mb_array.specs.machine.Cutting.{is_from, AreIndicesFrom, Cut, cut_of}
 use Rattle.mb_world.proofs.SameKeys.{find-found, remove-without, own-equal}
-use Rattle.mb_ordinary.proofs.Sorting.{low-index, in_order, in-order, are-indices, All-in_order, indexed, indices-are}
+use Rattle.mb_ordinary.proofs.Sorting.{low-index, indexed}
 
 and-second : (a b : Bool) → a && b ≡ true → b ≡ true
 and-second true b h = h
@@ -53,7 +51,7 @@ keys-map : (n : Names) (ps : List (Key × Full Value)) → property_keys (map (p
 keys-map n [] = refl
 keys-map n (p ∷ ps) = ap (λ r. key_in n p.0 ∷ r) (keys-map n ps)
 
-keys-in : (d : Data) (ps : List (Key × Full Value)) → All (PropertyIn d) ps → All (KeyIn d) (keys_of ps)
+pub keys-in : (d : Data) (ps : List (Key × Full Value)) → All (PropertyIn d) ps → All (KeyIn d) (keys_of ps)
 keys-in d [] h = λ k x l. absurd (omega arith)
 keys-in d (p ∷ ps) h = All-cons (KeyIn d) p.0 (keys_of ps) (All-head (PropertyIn d) p ps h).0 (keys-in d ps (All-tail (PropertyIn d) p ps h))
 
@@ -70,16 +68,6 @@ module _ (d : Data) (distinct : AreDistinct d.texts) where
       by : (b : Bool) → nat_le n (index_of k) ≡ b → indices_from n (map (indexed d distinct) ks) ≡ map (indexed d distinct) (filter (is_from n) ks) → indices_from n (map (indexed d distinct) (k ∷ ks)) ≡ map (indexed d distinct) (filter (is_from n) (k ∷ ks))
       by true e r = rw (here, e) (ap (λ z. indexed d distinct k ∷ z) r)
       by false e r = rw (here, e) r
-
-  pub from-is : (n : ℕ) (ks from : List Key) → All (KeyIn d) ks → IsDistinct same_key ks → AreIndicesFrom n ks from → from ≡ filter (is_from n) (in_order ks)
-  from-is n ks from g u h = h.kept ∙ sym (filter-both (is_from n) is_array_index h.ordered ∙ filter-same _ _ same h.ordered) ∙ ap (filter (is_from n)) (in-order d distinct ks h.ordered g u h.order)
-    where
-      twice : (a b : Bool) → a && (a && b) ≡ a && b
-      twice true b = refl
-      twice false b = refl
-
-      same : (k : Key) → is_array_index k && is_from n k ≡ is_from n k
-      same k = twice (is_array_index k) (nat_le n (index_of k))
 
 -- ---- the cut
 
@@ -102,29 +90,17 @@ module _ (d : Data) (distinct : AreDistinct d.texts) where
       by true e r = rw (test, e) refl
       by false e r = rw (test, e) (ap (λ z. shrink (map (indexed d distinct) ks) n z) (sym (remove-without d distinct ps k g here)) ∙ r)
 
-  -- what is shrunk is what is cut, over the keys as they are read
-  pub cut-is : (n : ℕ) (t : Thing) (ps : List (Key × Full Value)) (from : List Key) → t.properties ≡ map (property_in (names_of d)) ps → All (PropertyIn d) ps → HasDistinctKeys ps → AreIndicesFrom n (keys_of ps) from → shrunk n t ≡ shrunk_of (names_of d) (cut_of (reverse from) n ps)
-  cut-is n t ps from e g u h =
-      let ks : List Key = keys_of ps in
-      let in_ks : All (KeyIn d) ks = keys-in d ps g in
+  -- what is shrunk is what is cut, over the keys as they are listed
+  pub cut-is : (n : ℕ) (t : Thing) (ps : List (Key × Full Value)) (from : List Key) → t.properties ≡ map (property_in (names_of d)) ps → All (PropertyIn d) ps → AreIndicesFrom d n ps from → shrunk n t ≡ shrunk_of (names_of d) (cut_of (reverse from) n ps)
+  cut-is n t ps from e g h =
       let is : indices_from n (indices (property_keys t.properties)) ≡ map (indexed d distinct) from =
-      ap (λ r. indices_from n (indices (property_keys r))) e
-      ∙ ap (λ r. indices_from n (indices r)) (keys-map (names_of d) ps)
-      ∙ ap (indices_from n) (indices-are d distinct ks in_ks)
-      ∙ indices-from d distinct n (in_order ks) (are-indices ks)
-      ∙ ap (map (indexed d distinct)) (sym (from-is d distinct n ks from in_ks u h)) in
+      ap (λ r. indices_from n (indices (property_keys r))) e ∙ ap (λ r. indices_from n (indices r)) (keys-map (names_of d) ps) ∙ sym h.listed in
       ap (λ r. shrink (reverse r) n t.properties) is
       ∙ ap (λ r. shrink r n t.properties) (reverse-map (indexed d distinct) from)
       ∙ ap (shrink (map (indexed d distinct) (reverse from)) n) e
-      ∙ cut-shrinks (reverse from) n ps (from-in ks from in_ks u h) g
-    where
-      from-in : (ks from : List Key) → All (KeyIn d) ks → IsDistinct same_key ks → AreIndicesFrom n ks from → All (KeyIn d) (reverse from)
-      from-in ks from in_ks u h = All-permutation (KeyIn d) from (reverse from) (IsPermutation-reverse from) (subst (All (KeyIn d)) (sym (from-is d distinct n ks from in_ks u h)) (All-filter (is_from n) (KeyIn d) (in_order ks) (All-in_order (KeyIn d) ks in_ks)))
+      ∙ cut-shrinks (reverse from) n ps (All-permutation (KeyIn d) from (reverse from) (IsPermutation-reverse from) h.there) g
 
 -- ---- what is cut
-
-pub all-from : (n : ℕ) (ks from : List Key) → AreIndicesFrom n ks from → All (λ k. is_from n k ≡ true) from
-all-from n ks from h = subst (All (λ k. is_from n k ≡ true)) (sym h.kept) (filter_passes (is_from n) h.ordered)
 
 and-first : (a b : Bool) → a && b ≡ true → a ≡ true
 and-first true b h = refl
@@ -134,11 +110,10 @@ low-key : (d : Data) (k : Key) → KeyIn d k → is_array_index k ≡ true → i
 low-key d (Text a i) h e = low-index i (let z = index_of-le (text_at d.texts a) in let y : i ≡ spelled_index (text_at d.texts a) = h.1 in omega (arith, z, y)) e
 low-key d (Symbol a) h e = absurd (true≢false (sym e))
 
-pub low-keys : (d : Data) (n : ℕ) (ps : List (Key × Full Value)) (from : List Key) → All (PropertyIn d) ps → AreIndicesFrom n (keys_of ps) from → All (λ k. index_of k < 2 ^ 32 - 1) from
-low-keys d n ps from g h i e l =
-    let in_ordered : All (KeyIn d) h.ordered = All-permutation (KeyIn d) (keys_of ps) h.ordered h.order.permutation (keys-in d ps g) in
-    let in_from : All (KeyIn d) from = subst (All (KeyIn d)) (sym h.kept) (All-filter (is_from n) (KeyIn d) h.ordered in_ordered) in
-    low-key d (get_or from i e) (in_from i e l) (and-first (is_array_index (get_or from i e)) (nat_le n (index_of (get_or from i e))) (all-from n (keys_of ps) from h i e l))
+pub low-keys : (d : Data) (n : ℕ) (ps : List (Key × Full Value)) (from : List Key) → AreIndicesFrom d n ps from → All (λ k. index_of k < 2 ^ 32 - 1) from
+low-keys d n ps from h i e l =
+    let k : Key = get_or from i e in
+    low-key d k (h.there i e l) (and-first (is_array_index k) (nat_le n (index_of k)) (h.high i e l))
 
 -- no array index is a name
 pub no-name : (a : StrId) (k : Key) → index_of k < 2 ^ 32 - 1 → same_key (Text a (2 ^ 32 - 1)) k ≡ false

@@ -17,7 +17,7 @@ use Rattle.mb_world.specs.Graph.{Thing}
 use Rattle.mb_world.specs.Ordinary.{Defined as Outcome, Refused, Becomes, Faulty}
 use Rattle.mb_world.specs.Arrays.{defined}
 use Rattle.mb_world.specs.Data.{Data, cell_at, length_key}
-use Rattle.mb_world.specs.Formed.{full_values}
+use Rattle.mb_world.specs.Formed.{full_values, IsBelow}
 use Rattle.mb_world.specs.Image.{Names, names_of, Resolve, key_in, desc_in}
 use Rattle.mb_array.specs.declared.Defined.{Defined}
 use Rattle.mb_array.specs.declared.Defined.TheVariants.{Answer, Range, Kind}
@@ -26,12 +26,13 @@ use Rattle.mb_ordinary.specs.Definitions.{desc_values}
 
 -- ---- what is asked of an array
 
--- `length`: a fixed data property that no loop lists, a number below 2^32 (ECMA-262 10.4.2)
+-- `length`: a fixed data property that no loop lists, a number below 2^32 that is above each index (ECMA-262 10.4.2)
 pub record HasItsLength (texts : List (List ℕ)) (props : List (Key × Full Value)) : Type 0 where
   pub length : ℕ
   pub writable : Bool
   pub there : found props (length_key texts) ≡ Some (Datum (v.Whole (pos length)) writable false false)
   pub limit : length < 2 ^ 32
+  pub above : All (λ p. IsBelow length p.0) props
 
 -- ---- what is done
 

@@ -9,7 +9,8 @@ ghost use Rattle.mb_array.specs.Define.{HasItsLength, on_object, table_in};
 ghost use Rattle.mb_array.specs.machine.Cutting.{put_off};
 ghost use Rattle.mb_array.specs.machine.Done.{CanDefine, LengthIs, Ends};
 
-use crate::cutting::{cut, index_of, indices_from};
+use crate::cutting::{cut, index_of};
+use crate::indices::indices_from;
 use crate::length::{Length, asked_length, length_of, length_property};
 use crate::{Defined, plain};
 use mb_base::{Key, NoMemory, ObjId, Value};
@@ -120,6 +121,7 @@ fn shorten(
 ) -> Result<Defined, NoMemory>
     requires can { CanDefine w.old o length.key desc }
     requires length { LengthIs w.old o length.key length.value length.writable }
+    requires shorter { n < length.value }
     ensures { Ends w.old o desc
         (on_object (λ t k x. length_as t n (denies x.writable) (validated t length_key (without_writable x)))
         (names_of w.old) length.key desc (cell_at w.old o)) result w.new }
@@ -127,7 +129,7 @@ fn shorten(
     match plain::accepted(w, o, length.key, put_off(desc)) {
         None => Ok(Defined::Answer(false)),
         Some(full) => {
-            let keys = indices_from(&w.cell(o).props, n)?;
+            let keys = indices_from(w, o, n, length.value)?;
             let least = cut(w, o, n, keys);
             let writable = is_writable_last(full, desc.writable);
             w.put(o, length.key, length_property(least, writable))?;

@@ -1,17 +1,14 @@
 // The elements past a shorter length.
-ghost use Rattle.std.specs.Prelude.{◌≡◌, ◌-◌, ◌<◌, ◌^◌, All, IfOk, reverse};
-ghost use Rattle.std.specs.Map.{keys_of};
+ghost use Rattle.std.specs.Prelude.{◌≡◌, ◌-◌, ◌<◌, ◌^◌, All, reverse};
 ghost use Rattle.mb_props.specs.KeyOrder.{index_of};
-ghost use Rattle.mb_props.specs.Table.{HasDistinctKeys};
 ghost use Rattle.mb_world.specs.Data.{cell_at, change_cell};
 ghost use Rattle.mb_world.specs.Ids.{ObjIn};
 ghost use Rattle.mb_desc.specs.Descriptors.{is_fixed, property_is};
 ghost use Rattle.mb_array.specs.Define.{table_in, with_table};
-ghost use Rattle.mb_array.specs.machine.Cutting.{index_in, is_from, AreIndicesFrom, cut_of};
+ghost use Rattle.mb_array.specs.machine.Cutting.{index_in, is_from, cut_of};
 
-use mb_base::{Key, NoMemory, ObjId, Value};
+use mb_base::{Key, ObjId, Value};
 use mb_desc::Full;
-use mb_props::Props;
 use mb_world::World;
 
 /// The array index of a key, if it is one.
@@ -22,16 +19,6 @@ pub(crate) fn index_of(key: Key) -> Option<u32>
         Key::Text { index, .. } if index != u32::MAX => Some(index),
         _ => None,
     }
-}
-
-/// The array indices not below `n` among the keys of a table, ascending.
-pub(crate) fn indices_from(props: &Props<Full<Value>>, n: u32) -> Result<Vec<Key>, NoMemory>
-    ensures indices { IfOk result (λ keys. AreIndicesFrom n (keys_of props.now) keys.items) }
-    ensures distinct { HasDistinctKeys props.now }
-{
-    let mut keys = props.keys_in_order()?;
-    keys.retain(|key| is_from(*key, n));
-    Ok(keys)
 }
 
 /// Takes these elements out, the last key first, down to one that isn't configurable. The least length that the
@@ -63,7 +50,8 @@ fn place_of(key: Key) -> u32
     }
 }
 
-fn is_from(key: Key, n: u32) -> bool
+/// Whether a key is an array index, and not below `n`.
+pub(crate) fn is_from(key: Key, n: u32) -> bool
     ensures { result ≡ is_from n key }
 {
     match index_of(key) {

@@ -58,8 +58,8 @@ pub(crate) fn length_of(w: &World, o: ObjId) -> Length
     }
 }
 
-// The value and the writable flag of a `length`.
-fn parts(property: Option<Full<Value>>) -> (u32, bool)
+/// The value and the writable flag of a `length`.
+pub(crate) fn parts(property: Option<Full<Value>>) -> (u32, bool)
     ensures { result ≡ length_parts property }
 {
     match property {

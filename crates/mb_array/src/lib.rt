@@ -13,8 +13,11 @@ ghost use Rattle.mb_array.specs.Define.{HasItsLength, meant, told, left, changes
 
 mod array;
 mod cutting;
+mod indices;
 mod length;
 mod plain;
+#[cfg(test)]
+mod tests;
 
 use mb_base::{Key, NoMemory, ObjId, Value};
 use mb_desc::Desc;

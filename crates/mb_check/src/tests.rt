@@ -57,6 +57,9 @@ fn hold(rt: &impl Abort, rows: &[(Verdict, u8)]) {
 #[test]
 fn prototypes_and_extensions(rt: HostRuntime) {
     let rows = [
+        // 1 is judged before: here what is neither an object nor null is one more prototype
+        (get_prototype(ONE, None), 0),
+        (get_prototype(ONE, Some(OBJECT)), 2),
         (get_prototype(OBJECT, None), 0),
         (get_prototype(OBJECT, Some(OBJECT)), 0),
         (get_prototype(OBJECT, Some(OTHER)), 2),
@@ -79,6 +82,7 @@ fn a_property_said_to_be_absent(rt: HostRuntime) {
     let fixed = Some(datum(ONE, true, false));
     let loose = Some(accessor(OBJECT, OBJECT, true));
     let rows = [
+        // 6 can't be broken here: `own_absent` is told of undefined, `own_present` of a property
         (own_absent(None, false), 0),
         (own_absent(loose, true), 0),
         (own_absent(fixed, true), 7),

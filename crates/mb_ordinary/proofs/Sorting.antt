@@ -62,7 +62,7 @@ All-in_order P (k ∷ ks) h = by (is_array_index k) (All-in_order P ks (All-tail
 
 -- ---- they rise
 
-abbrev Rises : List Key → Type 0
+abbrev pub Rises : List Key → Type 0
 Rises [] = Unit {0}
 Rises (k ∷ ks) = All (λ q. index_of k ≤ index_of q) ks × Rises ks
 
@@ -78,7 +78,7 @@ Rises-put k (q ∷ qs) h = by (nat_lt (index_of k) (index_of q)) refl (Rises-put
         let l : index_of q ≤ index_of k = ltb-false _ _ e in
         (All-put (λ z. index_of q ≤ index_of z) k qs l h.0, r)
 
-Rises-in_order : (ks : List Key) → Rises (in_order ks)
+pub Rises-in_order : (ks : List Key) → Rises (in_order ks)
 Rises-in_order [] = tt
 Rises-in_order (k ∷ ks) = by (is_array_index k) (Rises-in_order ks)
   where
@@ -95,7 +95,7 @@ never-falls (k ∷ ks) h (suc i) (suc j) d le below = never-falls ks h.1 i j d (
 
 -- ---- of each index there is one at most
 
-abbrev at_index : ℕ → Key → Bool
+abbrev pub at_index : ℕ → Key → Bool
 at_index i k = nat_eq (index_of k) i
 
 put-other : (i : ℕ) (k : Key) (qs : List Key) → at_index i k ≡ false → filter (at_index i) (put_key k qs) ≡ filter (at_index i) qs
@@ -146,7 +146,7 @@ module _ (d : Data) (distinct : AreDistinct d.texts) where
       by true true x y r = absurd (true≢false (sym (one-key k q h (All-head (KeyIn d) q ks g) e (eqb-true (index_of q) (index_of k) y)) ∙ u.0))
 
   -- the keys of an index, in order or not
-  at-index : (i : ℕ) (ks : List Key) → All (KeyIn d) ks → IsDistinct same_key ks → filter (at_index i) (in_order ks) ≡ filter (at_index i) (array_indices ks)
+  pub at-index : (i : ℕ) (ks : List Key) → All (KeyIn d) ks → IsDistinct same_key ks → filter (at_index i) (in_order ks) ≡ filter (at_index i) (array_indices ks)
   unfolding IsDistinct
   at-index i [] g u = refl
   at-index i (k ∷ ks) g u = by (is_array_index k) (at_index i k) refl refl (at-index i ks (All-tail (KeyIn d) k ks g) u.1)

@@ -7,6 +7,8 @@ mod changing;
 pub mod laws;
 mod prototypes;
 mod reading;
+#[cfg(test)]
+mod tests;
 
 pub use answers::{Look, SetStep, Visit};
 pub use changing::{define, delete, prevent};

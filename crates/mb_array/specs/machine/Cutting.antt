@@ -1,13 +1,18 @@
 -- The deletion of elements past a shorter length, over the keys of a world.
-use Rattle.std.specs.Prelude.{◌≡◌, ◌+◌, ◌-◌, ◌^◌, ◌&&◌, not, nat_eq, nat_le, ℕ, List, [], ◌∷◌, Bool, true, false, Option, Some, None, if◌then◌else◌}
-use Rattle.std.specs.List.{filter}
+use Rattle.std.specs.Prelude.{◌≡◌, ◌+◌, ◌-◌, ◌^◌, ◌&&◌, not, nat_eq, nat_le, ℕ, List, [], ◌∷◌, map, All, Bool, true, false, Option, Some, None, if◌then◌else◌}
+use Rattle.std.specs.Map.{keys_of}
 use Rattle.mb_base.specs.declared.value.Key.{Key}
 use Rattle.mb_base.specs.declared.value.Value.{Value}
 use Rattle.mb_desc.specs.declared.descriptor.Desc.{Desc}
 use Rattle.mb_desc.specs.declared.descriptor.Full.{Full}
 use Rattle.mb_props.specs.Table.{found, without}
-use Rattle.mb_props.specs.KeyOrder.{index_of, is_array_index, IsInKeyOrder}
+use Rattle.mb_props.specs.KeyOrder.{index_of, is_array_index}
 use Rattle.mb_desc.specs.Descriptors.{is_fixed, property_is, denies}
+use Rattle.mb_world.specs.Arrays.{indices_from}
+use Rattle.mb_world.specs.Key.{indices}
+use Rattle.mb_world.specs.Data.{Data}
+use Rattle.mb_world.specs.Ids.{KeyIn}
+use Rattle.mb_world.specs.Image.{names_of, key_in}
 
 -- the array index of a key
 abbrev pub index_in : Key → Option ℕ
@@ -17,11 +22,12 @@ index_in key = if is_array_index key then Some (index_of key) else None
 abbrev pub is_from : ℕ → Key → Bool
 is_from n key = is_array_index key && nat_le n (index_of key)
 
--- the array indices not below n, ascending
-pub record AreIndicesFrom (n : ℕ) (keys from : List Key) : Type 0 where
-  pub ordered : List Key
-  pub order : IsInKeyOrder keys ordered
-  pub kept : from ≡ filter (is_from n) ordered
+-- the keys that stand for the array indices not below n, ascending, as the definition lists them
+pub record AreIndicesFrom (d : Data) (n : ℕ) (props : List (Key × Full Value)) (from : List Key) : Type 0 where
+  pub listed : map (λ k. (index_of k, key_in (names_of d) k)) from
+      ≡ indices_from n (indices (map (key_in (names_of d)) (keys_of props)))
+  pub there : All (KeyIn d) from
+  pub high : All (λ k. is_from n k ≡ true) from
 
 -- a table that was cut: what is left, its least length, and whether all went
 pub record Cut : Type 0 where

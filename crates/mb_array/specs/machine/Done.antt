@@ -13,6 +13,7 @@ use Rattle.mb_desc.specs.Descriptors.{IsOfOneKind}
 use Rattle.mb_world.specs.Ordinary.{Defined as Outcome}
 use Rattle.mb_world.specs.Data.{Data, cell_at, property_at, change_cell, length_key, length_units}
 use Rattle.mb_world.specs.Arrays.{as_length}
+use Rattle.mb_world.specs.Formed.{IsBelow}
 use Rattle.mb_world.specs.Key.{Named}
 use Rattle.mb_text.specs.Texts.{AreDistinct}
 use Rattle.mb_world.specs.declared.cell.Cell.{Cell}
@@ -47,6 +48,7 @@ pub record LengthIs (d : Data) (o : ObjId) (key : Key) (n : ℕ) (writable : Boo
   pub key_there : KeyIn d key
   pub there : property_at d o key ≡ Some (Datum (v.Whole (pos n)) writable false false)
   pub limit : n < 2 ^ 32
+  pub above : All (λ p. IsBelow n p.0) (table_in (cell_at d o))
 
 -- the length that a value asks for, or the answer that refuses it
 abbrev pub length_or_range : Option ℕ → Result ℕ Defined
