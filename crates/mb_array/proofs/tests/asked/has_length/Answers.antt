@@ -6,7 +6,7 @@ use Rattle.mb_array.proofs.Tried.{has-length}
 use Rattle.mb_array.proofs.tests.asked.has_length.Goals as goal
 
 pub returns : goal.returns
-returns c =
+returns r c =
     let d = c.args.w.now in
     let cell = c.cell-cell.ensures in
     let there = c.get-property.ensures.value in

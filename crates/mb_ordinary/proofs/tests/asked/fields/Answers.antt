@@ -1,4 +1,4 @@
 use Rattle.mb_ordinary.proofs.tests.asked.fields.Goals as goal
 
 pub returns : goal.returns
-returns c = record { value_in = c.field.ensures; get_in = c.field-2.ensures; set_in = c.field-3.ensures }
+returns r c = record { value_in = c.field.ensures; get_in = c.field-2.ensures; set_in = c.field-3.ensures }
