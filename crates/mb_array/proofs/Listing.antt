@@ -28,7 +28,7 @@ use Rattle.mb_world.specs.Formed.{IsBelow}
 use Rattle.mb_world.specs.Ids.{KeyIn, PropertyIn}
 use Rattle.mb_world.specs.Image.{names_of, key_in}
 use Rattle.mb_ordinary.proofs.Sorting.{in_order, in-order, are-indices, All-in_order, indexed, indices-are, Rises, Rises-in_order, at_index, at-index}
-use Rattle.mb_ordinary.proofs.SameKeys.{own-equal, own-same}
+use Rattle.mb_world.proofs.SameKeys.{own-equal, own-same}
 use Rattle.mb_array.specs.machine.Cutting.{is_from, AreIndicesFrom}
 use Rattle.mb_array.proofs.Shrinking.{keys-in, indices-from}
 
