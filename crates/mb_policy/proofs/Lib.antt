@@ -1,0 +1,10 @@
+pub mod Units
+pub mod Parts
+pub mod FieldNames
+pub mod RuleParts
+pub mod Kept
+pub mod Links
+pub mod Pairs
+pub mod Files
+pub mod Fitting
+pub mod Accepted
