@@ -1,0 +1,4 @@
+pub mod Labelled
+pub mod Showing
+pub mod Views
+pub mod Rulings
