@@ -21,7 +21,8 @@ pub fn admits(w: &World, viewer: Side, id: ObjId, change: Change) -> Ruling
     ensures meant { TellsChange w.now id change → IfSome (object_at w.now id) (λ t. ruling_in result
         ≡ Admits (graph_of w.now) viewer.0 t (change_in (names_of w.now) change)) }
     ensures proto { IfSome (object_at w.now id) (λ t. is_read_only (graph_of w.now) viewer.0 t ≡ true
-        → IfSome (cell_at w.now id) (λ c. (p : Value) → change ≡ Change.Proto p → result ≡ Ruling.Decided (equal p c.proto))) }
+        → IfSome (cell_at w.now id) (λ c. (p : Value) → change ≡ Change.Proto p
+        → result ≡ Ruling.Decided (equal p c.proto))) }
 {
     if is_read_only(w, viewer, id) {
         Ruling::Decided(read_only_answer(w, viewer, id, change))

@@ -123,7 +123,7 @@ fn world(rt: &impl Abort, alloc: Global, first: Rule, second: Rule) -> Result<Wo
     Ok(w)
 }
 
-// With one rule for the label, between none and one for another label.
+// With a rule for another label, and this one.
 fn one(rt: &impl Abort, alloc: Global, kind: RuleKind) -> Result<World, Fail> {
     let other = Rule {
         label: StrId(3),
