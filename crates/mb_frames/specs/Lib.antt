@@ -1,0 +1,10 @@
+pub mod Resolved
+pub mod Rest
+pub mod Kinds
+pub mod Held
+pub mod Standing
+pub mod Holding
+pub mod Stepping
+pub mod Sorts
+pub mod Failing
+pub mod Wholeness

@@ -1,0 +1,9 @@
+pub mod Parts
+pub mod Expressions
+pub mod Statements
+pub mod Calls
+pub mod Reflecting
+pub mod Arraying
+pub mod Proxying
+pub mod Collecting
+pub mod Crossings

@@ -1,0 +1,38 @@
+//! The machine: a stack of frames, each of which stands for the rest of a row of the meaning.
+#![tactic(auto)]
+
+mod arrays;
+mod calls;
+mod collections;
+mod crossing;
+mod expressions;
+mod failing;
+mod frame;
+mod laws;
+mod machine;
+mod proxies;
+mod reflecting;
+mod statements;
+mod task;
+#[cfg(test)]
+mod tests;
+mod values;
+
+pub use arrays::{ArrayFrame, Callback, Member, Turn};
+pub use calls::{AfterDesc, AfterList, CallFrame, Field};
+pub use collections::{CollectFrame, Visiting};
+pub use crossing::MembraneFrame;
+pub use expressions::{After, ExprFrame, Reference};
+pub use failing::fail;
+pub use frame::{Entering, Frame, Given, Move};
+pub use laws::{
+    a_step_keeps_the_machine_whole, a_step_leaves_the_rest, a_step_needs_only_its_own_row,
+    a_step_that_cannot_pay_is_spent, each_step_lowers_the_weight, parts_that_change_nothing,
+    parts_that_charge, the_meaning_does_rows, what_was_found_stays_found,
+};
+pub use machine::{Halt, Lines, Machine, Waiting};
+pub use proxies::{Absent, ProxyFrame};
+pub use reflecting::ReflectFrame;
+pub use statements::StmtFrame;
+pub use task::{Answer, Context, Method, Outcome, Request, Task};
+pub use values::{Units, Values};

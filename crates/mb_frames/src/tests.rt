@@ -1,0 +1,108 @@
+// Machines by their moves, and an error that is thrown.
+ghost use Rattle.std.specs.Prelude.{◌≡◌};
+
+use super::*;
+use mb_base::{NoMemory, NodeId, ObjId, ScopeId, Side, Value};
+use mb_world::{CellKind, ErrorKind, World};
+use std::alloc::Global;
+use std::test::Fail;
+
+const AT: Context = Context {
+    scope: ScopeId(0),
+    this: Value::Undefined,
+};
+
+// A machine of a side without frames.
+fn idle(alloc: Global, now: Side) -> Machine {
+    Machine {
+        stack: Vec::new(alloc),
+        now,
+        done: None,
+    }
+}
+
+// The evaluation of a node.
+fn evaluate(node: u32) -> Task {
+    Task::Evaluate {
+        node: NodeId(node),
+        at: AT,
+    }
+}
+
+#[test]
+fn the_last_frame_is_on_top(rt: HostRuntime) -> Result<(), Fail> {
+    let mut machine = idle(rt.alloc(), Side(0));
+    assert!(rt; machine.pop().is_none());
+    for home in [3, 4] {
+        let pushed = machine.push(Waiting {
+            home: Side(home),
+            frame: Frame::Expr(ExprFrame::Got),
+        });
+        assert!(rt; pushed.is_ok());
+    }
+    for home in [4, 3] {
+        match machine.pop() {
+            Some(top) => assert_eq!(rt; top.home, Side(home)),
+            None => assert!(rt; false),
+        }
+    }
+    assert!(rt; machine.pop().is_none());
+    Ok(())
+}
+
+// The frames that a move leaves, and whether an outcome is there.
+fn left_by(alloc: Global, step: Move) -> (usize, bool) {
+    let mut machine = idle(alloc, Side(0));
+    match machine.make(Side(1), step) {
+        Ok(()) => (machine.stack.len(), machine.done.is_some()),
+        Err(_) => (99, false),
+    }
+}
+
+#[test]
+fn moves_are_made(rt: HostRuntime) {
+    let alloc = rt.alloc();
+    let waits = Frame::Stmt(StmtFrame::Return);
+    assert_eq!(rt; left_by(alloc, Move::Done(Outcome::Break)), (0, true));
+    assert_eq!(rt; left_by(alloc, Move::Wait(waits, evaluate(1))), (2, false));
+    assert_eq!(rt; left_by(alloc, Move::Next(evaluate(1))), (1, false));
+    assert_eq!(rt; left_by(alloc, Move::Anew(evaluate(1))), (1, false));
+    let entry = Frame::Entry(Entering {
+        began: 0,
+        object: ObjId(0),
+        op: mb_world::Op::IsExtensible,
+        key: None,
+        given: Given::Nothing,
+    });
+    assert_eq!(rt;
+        left_by(alloc, Move::Entered(entry, evaluate(1))),
+        (2, false)
+    );
+}
+
+// Throws an error of the first side, in a world that has the prototype of its kind alone.
+fn thrown(alloc: Global) -> Result<Option<u32>, NoMemory> {
+    let mut world = World::new(alloc)?;
+    world.make(Side(0), CellKind::BuiltIn(50), Value::Null, None)?;
+    let _texts = world.texts();
+    if world.built_in(Side(0), 50).is_none() {
+        return Ok(None);
+    }
+    match fail(&mut world, Side(0), ErrorKind::TypeError) {
+        Ok(step) => Ok(error_of(&step)),
+        Err(_) => Ok(None),
+    }
+}
+
+// The object that a move throws.
+fn error_of(step: &Move) -> Option<u32> {
+    match step {
+        Move::Done(Outcome::Throw(Value::Object(id))) => Some(id.0),
+        _ => None,
+    }
+}
+
+#[test]
+fn an_error_is_a_new_object(rt: HostRuntime) {
+    assert_eq!(rt; thrown(rt.alloc()), Ok(Some(1)));
+}
