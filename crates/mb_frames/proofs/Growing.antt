@@ -66,11 +66,11 @@ module _ (d d' : Data) (g : Grows d d') where
   stack-grows [] h = h
   stack-grows (y ∷ ys) h = (are-grown (frame_held y.frame) h.0, stack-grows ys h.1)
 
-are-first : (d : Data) (a b : List Held) → AreIn d (a ++ b) → AreIn d a
+pub are-first : (d : Data) (a b : List Held) → AreIn d (a ++ b) → AreIn d a
 are-first d [] b h = tt
 are-first d (y ∷ ys) b h = (h.0, are-first d ys b h.1)
 
-are-second : (d : Data) (a b : List Held) → AreIn d (a ++ b) → AreIn d b
+pub are-second : (d : Data) (a b : List Held) → AreIn d (a ++ b) → AreIn d b
 are-second d [] b h = h
 are-second d (y ∷ ys) b h = are-second d ys b h.1
 

@@ -5,3 +5,8 @@ pub mod Weighing
 pub mod Growing
 pub mod Founding
 pub mod Errors
+pub mod Parts
+pub mod Linking
+pub mod Forming
+pub mod Owning
+pub mod Worlds

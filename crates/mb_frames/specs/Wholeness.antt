@@ -4,7 +4,6 @@ use Rattle.mb_base.specs.declared.value.ScopeId.{ScopeId}
 use Rattle.mb_frames.specs.Stepping.{Grew}
 use Rattle.mb_world.specs.Ids.{ObjIn, ScopeIn, ValueIn}
 use Rattle.std.specs.Prelude.{is_some}
-use Rattle.mb_world.specs.Data.{built_in_of}
 use Rattle.mb_frames.specs.Held.{HeldKeyIf}
 use Rattle.std.specs.List.{AllByRecursion, flat_map}
 use Rattle.std.specs.Prelude.{◌++◌, ◌<◌, All, List, None, Option, Some, [], false, length, map, slice_get, true, ℕ, ◌∷◌, ◌≡◌, ◌≢◌, ◌≤◌, ◌⊎◌}
@@ -15,10 +14,10 @@ use Rattle.mb_desc.specs.View.{View}
 use Rattle.mb_desc.specs.declared.descriptor.Desc.{Desc}
 use Rattle.mb_desc.specs.declared.descriptor.Full.{Full}
 use Rattle.mb_frames.specs.Held.{Held, HeldBegan, HeldCallable, HeldCollection, HeldConstructor, HeldDesc, HeldEntered, HeldFields, HeldFull, HeldKey, HeldKeys, HeldNode, HeldNodeIf, HeldObject, HeldPlace, HeldPrototype, HeldReal, HeldScope, HeldText, HeldTextIf, HeldValue, HeldValues}
-use Rattle.mb_frames.specs.Holding.{MachineIn, done_held, frame_held}
+use Rattle.mb_frames.specs.Holding.{MachineIn, done_held, frame_held, move_held}
 use Rattle.mb_frames.specs.Kinds.{is_node}
-use Rattle.mb_frames.specs.Sorts.{AreLinked, IsOfSort, Sort}
-use Rattle.mb_frames.specs.Standing.{forms_at}
+use Rattle.mb_frames.specs.Sorts.{AreLinked, IsOfSort, Sort, fits, frame_sort, stack_sort}
+use Rattle.mb_frames.specs.Standing.{Across, Here, Passage, done_by, forms_at, home_of, left_by, move_of}
 use Rattle.mb_frames.specs.Stepping.{HasItsOutcome, MayCross}
 use Rattle.mb_view.specs.Views.{Evolves}
 use Rattle.mb_world.specs.Contained.{Contained, IsMembrane, IsOwn, Opposite, PairedFrom, in_full, in_option, in_value, scope_home}
@@ -38,6 +37,7 @@ use Rattle.mb_frames.specs.declared.frame.Frame.TheVariants as x
 use Rattle.mb_frames.specs.declared.machine.Waiting.{Waiting}
 use Rattle.mb_frames.specs.declared.machine.Machine.{Machine}
 use Rattle.mb_frames.specs.declared.machine.Halt.{Halt}
+use Rattle.mb_frames.specs.declared.machine.Halt.TheVariants.{Spent as SpentHalt, NoMemory}
 use Rattle.mb_world.specs.declared.cell.Cell.{Cell}
 use Rattle.mb_world.specs.declared.cell.CellKind.{CellKind}
 use Rattle.mb_world.specs.declared.cell.CellKind.TheVariants as kind
@@ -45,11 +45,6 @@ use Rattle.mb_world.specs.Graph as graph
 use Rattle.mb_view.specs.Views as views
 
 -- ---- a machine is formed: what was found of what stands in a frame of that home
-
--- each built-in of the table is there for the side
-abbrev pub HasBuiltIns : Data → Side → Type 0
-HasBuiltIns d side =
-    (place : ℕ) → intrinsic place ≢ None → is_some (built_in_of d.joined d.cells side place) ≡ true
 
 abbrev pub desc_values : Desc Value → List Value
 desc_values given = option_values given.value ++ option_values given.get ++ option_values given.set
@@ -111,8 +106,8 @@ AreSound d home held = AllByRecursion (IsSound d home) held
 abbrev pub IsStackSound : Data → List Waiting → Type 0
 IsStackSound d stack = AllByRecursion (λ y. AreSound d y.home (frame_held y.frame)) stack
 
--- what was found stays found: what is called or constructs, collections, whose a scope is, the entries, and which objects
--- have a membrane proxy
+-- what was found stays found: what is called or constructs, collections, whose a scope is, the entries, and which
+-- objects have a membrane proxy
 pub record StaysFound (d d' : Data) : Type 0 where
   pub grew : Grew d d'
   pub callable : (y : Value) → ValueIn d y → IsCallable d y → IsCallable d' y
@@ -122,13 +117,8 @@ pub record StaysFound (d d' : Data) : Type 0 where
   pub entries : length d.entries ≤ length d'.entries
   pub proxies : (id : ObjId) (home : Side) → IsProxyAt d home id → IsProxyAt d' home id
 
--- A machine is formed, with its world. The sort is that of the outcome, which is there or is to come; the parameters are
--- those of what holds of the world.
-pub record Formed (IsProgram : Script → Type 0) (AreRules : List graph.Rule → Type 0) (IsEntry : graph.Entry → Type 0)
-    (d : Data) (m : Machine) : Type 0 where
-  pub world : FormedBy IsProgram AreRules IsEntry d
-  pub world_ids : HasItsIds d
-  pub built_ins : (side : Side) → side.0 < d.sides → HasBuiltIns d side
+-- A machine is formed with its world. The sort is that of the outcome, which is there or is to come.
+pub record FormedMachine (d : Data) (m : Machine) : Type 0 where
   pub ids : MachineIn d m
   pub homes : AllByRecursion (λ y. y.home.0 < d.sides) m.stack.items
   pub now : m.now.0 < d.sides
@@ -138,6 +128,43 @@ pub record Formed (IsProgram : Script → Type 0) (AreRules : List graph.Rule �
   pub sort : Sort
   pub linked : AreLinked (forms_at d) m.stack.items sort
   pub of_sort : Maybe (IsOfSort sort) m.done
+
+-- the world of a formed machine, with the parameters of what holds of it
+pub record FormedWorld (IsProgram : Script → Type 0) (AreRules : List graph.Rule → Type 0)
+    (IsEntry : graph.Entry → Type 0) (d : Data) : Type 0 where
+  pub formed : FormedBy IsProgram AreRules IsEntry d
+  pub ids : HasItsIds d
+
+pub record Formed (IsProgram : Script → Type 0) (AreRules : List graph.Rule → Type 0) (IsEntry : graph.Entry → Type 0)
+    (d : Data) (m : Machine) : Type 0 where
+  pub world : FormedWorld IsProgram AreRules IsEntry d
+  pub machine : FormedMachine d m
+
+-- ---- what goes on in the place of a frame of a formed machine
+
+-- What it puts on the stack, and its outcome, are sound for the home of each; `given` is the sort of the outcome that
+-- is there or is to come, and what the whole part then gives is of the sort that the frame was to give.
+pub record GoesOnFormed (d : Data) (wanted : Sort) (m : Passage) : Type 0 where
+  pub homes : AllByRecursion (λ y. y.home.0 < d.sides) (left_by m)
+  pub now : (home_of m).0 < d.sides
+  pub frames : IsStackSound d (left_by m)
+  pub done : AreSound d (home_of m) (done_held (done_by (move_of m)))
+  pub given : Sort
+  pub of_sort : Maybe (IsOfSort given) (done_by (move_of m))
+  pub linked : AreLinked (forms_at d) (left_by m) given
+  pub fitting : fits (stack_sort (forms_at d) (left_by m) given) wanted ≡ true
+
+-- the sort that a frame is to give, where that of the outcome on top is `sort`
+abbrev pub sort_by : Data → Waiting → Sort → Sort
+sort_by d y sort = frame_sort (forms_at d y.home) y.frame sort
+
+-- what every step call answers of a formed machine: its world stays formed, and so does the machine where the step was
+-- made; nothing is said where memory was refused
+abbrev pub FormedAfter : (Script → Type 0) → (List graph.Rule → Type 0) → (graph.Entry → Type 0)
+    → Result (Unit {0}) Halt → Data → Machine → Type 0
+FormedAfter IsProgram AreRules IsEntry (Ok u) d m = Formed IsProgram AreRules IsEntry d m
+FormedAfter IsProgram AreRules IsEntry (Err SpentHalt) d m = FormedWorld IsProgram AreRules IsEntry d
+FormedAfter IsProgram AreRules IsEntry (Err NoMemory) d m = Unit {0}
 
 -- ---- a machine is contained: each reference is one of its home
 
@@ -185,6 +212,20 @@ pub record MachineContained (d : Data) (m : Machine) : Type 0 where
   pub frames : AllByRecursion (λ y. AreOwn d y.home (frame_held y.frame)) m.stack.items
   pub done : AreOwn d m.now (done_held m.done)
   pub homes : AreAtHome m.stack.items m.now
+
+-- what a home owns it goes on owning
+abbrev pub StaysOwn : Data → Data → Type 0
+StaysOwn d d' = (side : Side) (o : ObjId) → ObjIn d o → IsOwn d side o → IsOwn d' side o
+
+-- what goes on in the place of a frame holds only what its homes own
+abbrev pub IsOwnBy : Data → Passage → Type 0
+IsOwnBy d (Here home m) = AreOwn d home (move_held m)
+IsOwnBy d (Across y home m) = AreOwn d y.home (frame_held y.frame) × AreOwn d home (move_held m)
+
+-- it stands at the home of that frame, so that nothing changed for those below
+abbrev pub StandsAt : Side → Passage → Type 0
+StandsAt side (Here home m) = home ≡ side
+StandsAt side (Across y home m) = y.home ≡ side
 
 -- ---- what a step of a home keeps in a world that isn't joined, but for a step of the membrane
 

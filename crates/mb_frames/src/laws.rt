@@ -8,10 +8,13 @@ ghost use Rattle.mb_model.specs.Task as model;
 ghost use Rattle.mb_model.specs.Writing.{Row, is_value, throw, answer, again};
 ghost use Rattle.mb_model.specs.Trace.Entries.{with_entry};
 ghost use Rattle.mb_world.specs.Graph.{Graph, Item};
+ghost use Rattle.mb_world.specs.Contained.{Contained, Paired};
 ghost use Rattle.mb_world.specs.Data.{Data};
 ghost use Rattle.mb_world.specs.Ids.{HasItsIds, ValueIn};
 ghost use Rattle.mb_world.specs.Image.{Image, Resolve, names_of};
 ghost use Rattle.mb_frames.specs.declared.task.Task.{Task};
+ghost use Rattle.mb_frames.specs.declared.task.Outcome.{Outcome};
+ghost use Rattle.mb_world.specs.declared.cell.ErrorKind.{ErrorKind};
 ghost use Rattle.mb_frames.specs.declared.task.Answer.TheVariants as a;
 ghost use Rattle.mb_frames.specs.declared.task.Outcome.TheVariants as o;
 ghost use Rattle.mb_frames.specs.declared.frame.Entering.{Entering};
@@ -23,11 +26,13 @@ ghost use Rattle.mb_frames.specs.declared.machine.Halt.{Halt};
 ghost use Rattle.mb_frames.specs.declared.machine.Halt.TheVariants as halt;
 ghost use Rattle.mb_frames.specs.declared.machine.Machine.{Machine};
 ghost use Rattle.mb_frames.specs.declared.machine.Waiting.{Waiting};
-ghost use Rattle.mb_frames.specs.Holding.{StackIn, MachineIn, task_held, move_held};
+ghost use Rattle.mb_frames.specs.Failing.{HasItsBuiltIns, HasErrorPrototype};
+ghost use Rattle.mb_frames.specs.Holding.{StackIn, MachineIn, task_held, move_held, frame_held, outcome_held};
 ghost use Rattle.mb_frames.specs.Held.{AreIn};
 ghost use Rattle.mb_frames.specs.Resolved.{done_in, task_in};
-ghost use Rattle.mb_frames.specs.Standing.{Tasks, ByRows, Logged, Passage, left_by, hands, row_of, under_way, stack_gives, RestBy, forms_at, frame_row, entry_by};
-ghost use Rattle.mb_frames.specs.Wholeness.{StaysFound, IsStackSound};
+ghost use Rattle.mb_frames.specs.Standing.{Tasks, ByRows, Logged, Passage, Here, left_by, hands, row_of, under_way, stack_gives, RestBy, forms_at, frame_row, entry_by};
+ghost use Rattle.mb_frames.specs.Sorts.{Sort, IsOfSort, fits, frame_sort, task_gives, waits_for};
+ghost use Rattle.mb_frames.specs.Wholeness.{AreOwn, AreSound, FormedMachine, GoesOnFormed, IsOwnBy, IsStackSound, KeptWorld, MachineContained, StandsAt, StaysFound, StaysOwn, StepsKept, sort_by};
 ghost use Rattle.mb_frames.specs.Stepping.{Written, Stepped, Stopped, Sure, Step, PutsNone, charged_by, IsWait, weight, HasItsOutcome};
 
 /// The meaning does each task's row, and so does what starts anew.
@@ -81,6 +86,69 @@ pub fn a_step_keeps_the_machine_whole()
 pub fn each_step_lowers_the_weight()
     ensures { (m m' : Machine) (d d' : Data) (f f' : ℕ) (l l' : Written) → Stepped m m' d d' f f' l l' →
         (log : List Item) → Logged d log → HasItsOutcome m.stack.items m.done → weight m' f' < weight m f }
+{}
+
+/// A formed machine stays formed, where what was found stays found, and what goes on in the place of the top frame is
+/// formed: a step says nothing of the frames below it.
+pub fn a_formed_machine_stays_formed()
+    ensures { (m m' : Machine) (d d' : Data) (f f' : ℕ) (l l' : Written) → (q : Stepped m m' d d' f f' l l') →
+        (log : List Item) → Logged d log → (h : FormedMachine d m) → HasItsIds d → StaysFound d d' →
+        GoesOnFormed d' (sort_by d q.top h.sort) q.passage → FormedMachine d' m' }
+{}
+
+/// What goes on is formed: an outcome of a sort that fits, a task that gives one, and a frame that waits for what its
+/// task gives.
+pub fn what_goes_on_is_formed()
+    ensures ends { (d : Data) (home : Side) (wanted given : Sort) (y : Outcome) → home.0 < d.sides →
+        AreSound d home (outcome_held y) → IsOfSort given y → fits given wanted ≡ true →
+        GoesOnFormed d wanted (Here home (move.Done y)) }
+    ensures goes_on { (d : Data) (home : Side) (wanted : Sort) (t : Task) → home.0 < d.sides →
+        AreSound d home (task_held t) → fits (task_gives (forms_at d home) t) wanted ≡ true →
+        GoesOnFormed d wanted (Here home (move.Next t)) }
+    ensures anew { (d : Data) (home : Side) (wanted : Sort) (t : Task) → home.0 < d.sides →
+        AreSound d home (task_held t) → fits (task_gives (forms_at d home) t) wanted ≡ true →
+        GoesOnFormed d wanted (Here home (move.Anew t)) }
+    ensures waits { (d : Data) (home : Side) (wanted : Sort) (y : Frame) (t : Task) → home.0 < d.sides →
+        AreSound d home (frame_held y) → AreSound d home (task_held t) →
+        waits_for y (task_gives (forms_at d home) t) ≡ true →
+        fits (frame_sort (forms_at d home) y (task_gives (forms_at d home) t)) wanted ≡ true →
+        GoesOnFormed d wanted (Here home (move.Wait y t)) }
+    ensures entered { (d : Data) (home : Side) (wanted : Sort) (y : Frame) (t : Task) → home.0 < d.sides →
+        AreSound d home (frame_held y) → AreSound d home (task_held t) →
+        waits_for y (task_gives (forms_at d home) t) ≡ true →
+        fits (frame_sort (forms_at d home) y (task_gives (forms_at d home) t)) wanted ≡ true →
+        GoesOnFormed d wanted (Here home (move.Entered y t)) }
+{}
+
+/// A contained machine stays contained, where its world does, homes keep what they own, and what goes on stands at the
+/// home of the top frame and holds only what its homes own. A step that stays at that home keeps all that it is to keep.
+pub fn a_contained_machine_stays_contained()
+    ensures machine { (m m' : Machine) (d d' : Data) (f f' : ℕ) (l l' : Written) → (q : Stepped m m' d d' f f' l l') →
+        (log : List Item) → Logged d log → MachineIn d m → MachineContained d m → Contained d' → StaysOwn d d' →
+        StandsAt q.top.home q.passage → IsOwnBy d' q.passage → MachineContained d' m' }
+    ensures kept { (m m' : Machine) (d d' : Data) (f f' : ℕ) (l l' : Written) → (q : Stepped m m' d d' f f' l l') →
+        (log : List Item) → Logged d log → MachineIn d m → MachineContained d m → KeptWorld q.top.home d d' →
+        (y : Move) → q.passage ≡ Here q.top.home y → AreOwn d' q.top.home (move_held y) →
+        StepsKept (Ok tt) m m' d d' }
+    ensures own { (home : Side) (d d' : Data) → KeptWorld home d d' → StaysOwn d d' }
+{}
+
+/// A world is kept where nothing changes, and over two changes of one home.
+pub fn a_world_is_kept_in_steps()
+    ensures stays { (home : Side) (d : Data) → Contained d → Paired d → KeptWorld home d d }
+    ensures goes_on { (home : Side) (a b c : Data) → KeptWorld home a b → KeptWorld home b c → KeptWorld home a c }
+{}
+
+/// A side that has the built-ins has the prototypes of errors.
+pub fn a_side_can_throw_errors()
+    ensures { (d : Data) → HasItsBuiltIns d → (side : Side) → side.0 < d.sides → (error : ErrorKind) →
+        HasErrorPrototype d side error }
+{}
+
+/// What was found stays found where nothing changes, and over two changes.
+pub fn what_was_found_is_found_in_steps()
+    ensures stays { (d : Data) → StaysFound d d }
+    ensures goes_on { (a b c : Data) → StaysFound a b → StaysFound b c → StaysFound a c }
 {}
 
 /// What was found of what stands in frames stays found, in a world in which it does for each value, scope and proxy.

@@ -26,9 +26,11 @@ pub use expressions::{After, ExprFrame, Reference};
 pub use failing::fail;
 pub use frame::{Entering, Frame, Given, Move};
 pub use laws::{
+    a_contained_machine_stays_contained, a_formed_machine_stays_formed, a_side_can_throw_errors,
     a_step_keeps_the_machine_whole, a_step_leaves_the_rest, a_step_needs_only_its_own_row,
-    a_step_that_cannot_pay_is_spent, each_step_lowers_the_weight, parts_that_change_nothing,
-    parts_that_charge, the_meaning_does_rows, what_was_found_stays_found,
+    a_step_that_cannot_pay_is_spent, a_world_is_kept_in_steps, each_step_lowers_the_weight,
+    parts_that_change_nothing, parts_that_charge, the_meaning_does_rows, what_goes_on_is_formed,
+    what_was_found_is_found_in_steps, what_was_found_stays_found,
 };
 pub use machine::{Halt, Lines, Machine, Waiting};
 pub use proxies::{Absent, ProxyFrame};

@@ -50,6 +50,21 @@ fn the_last_frame_is_on_top(rt: HostRuntime) -> Result<(), Fail> {
     Ok(())
 }
 
+#[test]
+fn lists_take_more_at_their_end(rt: HostRuntime) -> Result<(), Fail> {
+    let mut values = Values::new(rt.alloc());
+    values.push(Value::Bool(true))?;
+    values.push(Value::Null)?;
+    assert_eq!(rt; values.len(), 2);
+    assert_eq!(rt; values.at(1), Some(Value::Null));
+    assert_eq!(rt; values.at(2), None);
+    let mut units = Units::new(rt.alloc());
+    units.extend(&[104, 105])?;
+    units.extend(&[33])?;
+    assert_eq!(rt; units.items().len(), 3);
+    Ok(())
+}
+
 // The frames that a move leaves, and whether an outcome is there.
 fn left_by(alloc: Global, step: Move) -> (usize, bool) {
     let mut machine = idle(alloc, Side(0));
