@@ -63,7 +63,7 @@ linked-after : (m m' : Machine) (d d' : Data) (f f' : ℕ) (l l' : Written) (q :
     → (k : GoesOnFormed d' (sort_by d q.top h.sort) q.passage)
     → AreLinked (forms_at d') (q.below ++ left_by q.passage) k.given
 linked-after m m' d d' f f' l l' q h i s k =
-    let e : forms_at d' ≡ forms_at d = λ i side. forms-grow d d' i s.grew side i in
+    let e : forms_at d' ≡ forms_at d = λ u side. forms-grow d d' i s.grew side u in
     let a : AreLinked (forms_at d) q.below (sort_by d q.top h.sort)
     = linked-below (forms_at d) q.below (q.top ∷ []) h.sort (rw (← q.was) h.linked) in
     let b : AreLinked (forms_at d') q.below (sort_by d q.top h.sort)
