@@ -29,25 +29,28 @@ fn evaluate(node: u32) -> Task {
     }
 }
 
+// One more frame of that home, and whether there was memory for it.
+fn put(machine: &mut Machine, home: Side) -> bool {
+    let frame = Frame::Expr(ExprFrame::Got);
+    machine.push(Waiting { home, frame }).is_ok()
+}
+
+// The home of the top frame, which is taken.
+fn taken(machine: &mut Machine) -> Option<Side> {
+    match machine.pop() {
+        Some(top) => Some(top.home),
+        None => None,
+    }
+}
+
 #[test]
-fn the_last_frame_is_on_top(rt: HostRuntime) -> Result<(), Fail> {
+fn the_last_frame_is_on_top(rt: HostRuntime) {
     let mut machine = idle(rt.alloc(), Side(0));
-    assert!(rt; machine.pop().is_none());
-    for home in [3, 4] {
-        let pushed = machine.push(Waiting {
-            home: Side(home),
-            frame: Frame::Expr(ExprFrame::Got),
-        });
-        assert!(rt; pushed.is_ok());
-    }
-    for home in [4, 3] {
-        match machine.pop() {
-            Some(top) => assert_eq!(rt; top.home, Side(home)),
-            None => assert!(rt; false),
-        }
-    }
-    assert!(rt; machine.pop().is_none());
-    Ok(())
+    assert_eq!(rt; taken(&mut machine), None);
+    assert!(rt; put(&mut machine, Side(3)));
+    assert!(rt; put(&mut machine, Side(4)));
+    assert_eq!(rt; taken(&mut machine), Some(Side(4)));
+    assert_eq!(rt; taken(&mut machine), Some(Side(3)));
 }
 
 #[test]
@@ -95,29 +98,33 @@ fn moves_are_made(rt: HostRuntime) {
     );
 }
 
-// Throws an error of the first side, in a world that has the prototype of its kind alone.
-fn thrown(alloc: Global) -> Result<Option<u32>, NoMemory> {
+// A world in which the first side has the prototype of one kind of errors.
+fn with_prototype(alloc: Global) -> Result<World, NoMemory> {
     let mut world = World::new(alloc)?;
     world.make(Side(0), CellKind::BuiltIn(50), Value::Null, None)?;
-    let _texts = world.texts();
-    if world.built_in(Side(0), 50).is_none() {
-        return Ok(None);
-    }
-    match fail(&mut world, Side(0), ErrorKind::TypeError) {
-        Ok(step) => Ok(error_of(&step)),
-        Err(_) => Ok(None),
-    }
+    Ok(world)
 }
 
-// The object that a move throws.
-fn error_of(step: &Move) -> Option<u32> {
-    match step {
-        Move::Done(Outcome::Throw(Value::Object(id))) => Some(id.0),
+// The object that a step throws.
+fn thrown(answer: Result<Move, Halt>) -> Option<u32> {
+    match answer {
+        Ok(Move::Done(Outcome::Throw(Value::Object(id)))) => Some(id.0),
         _ => None,
     }
 }
 
+// Throws an error of the first side.
+fn throws(world: &mut World) -> Option<u32> {
+    let _texts = world.texts();
+    if world.built_in(Side(0), 50).is_none() {
+        return None;
+    }
+    thrown(fail(world, Side(0), ErrorKind::TypeError))
+}
+
 #[test]
-fn an_error_is_a_new_object(rt: HostRuntime) {
-    assert_eq!(rt; thrown(rt.alloc()), Ok(Some(1)));
+fn an_error_is_a_new_object(rt: HostRuntime) -> Result<(), Fail> {
+    let mut world = with_prototype(rt.alloc())?;
+    assert_eq!(rt; throws(&mut world), Some(1));
+    Ok(())
 }
