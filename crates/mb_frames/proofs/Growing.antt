@@ -139,11 +139,11 @@ crossing-waits (x.Collect t) h = tt
 crossing-waits (x.Membrane t) h = tt
 crossing-waits (x.Entry t) h = tt
 
-pushed-on : {A : Type 0} (below : List Waiting) (y : Waiting) (ys : List Waiting) (done : Option A) → AreWaits below
-    → HasItsOutcome (y ∷ ys) done → HasItsOutcome (below ++ (y ∷ ys)) done
-pushed-on [] y ys done h k = k
-pushed-on (z ∷ []) y ys done h k = (h.0, k)
-pushed-on (z ∷ u ∷ zs) y ys done h k = (h.0, pushed-on (u ∷ zs) y ys done h.1 k)
+pushed-on : {A : Type 0} (below : List Waiting) (y : Waiting) (ys : List Waiting) (ended : Option A) → AreWaits below
+    → HasItsOutcome (y ∷ ys) ended → HasItsOutcome (below ++ (y ∷ ys)) ended
+pushed-on [] y ys ended h k = k
+pushed-on (z ∷ []) y ys ended h k = (h.0, k)
+pushed-on (z ∷ u ∷ zs) y ys ended h k = (h.0, pushed-on (u ∷ zs) y ys ended h.1 k)
 
 ended-on : {A : Type 0} (below : List Waiting) (a : A) → AreWaits below → HasItsOutcome (below ++ []) (Some a)
 ended-on [] a h = refl

@@ -10,3 +10,7 @@ pub mod Linking
 pub mod Forming
 pub mod Owning
 pub mod Worlds
+pub mod Changing
+pub mod AfterCalls
+pub mod Scoped
+pub mod Placed

@@ -37,7 +37,7 @@ use Rattle.std.specs.Prelude.{All, slice_index_or}
 -- ---- the objects that stand in something are of the world
 
 module _ (d : Data) where
-  of-value : (y : Value) → ValueIn d y → All (ObjIn d) (in_value y)
+  pub of-value : (y : Value) → ValueIn d y → All (ObjIn d) (in_value y)
   of-value v.Undefined h = All-nil (ObjIn d)
   of-value v.Null h = All-nil (ObjIn d)
   of-value (v.Bool b) h = All-nil (ObjIn d)
@@ -62,7 +62,7 @@ module _ (d : Data) where
       (All-append (ValueIn d) (option_values y.value) (option_values y.get) (of-option y.value h.value_in)
       (of-option y.get h.get_in)) (of-option y.set h.set_in))
 
-  of-full : (y : Full Value) → FullIn d y → All (ObjIn d) (in_full y)
+  pub of-full : (y : Full Value) → FullIn d y → All (ObjIn d) (in_full y)
   of-full (Datum x w e c) h = of-value x h
   of-full (Accessor g s e c) h = All-append (ObjIn d) (in_value g) (in_value s) (of-value g h.0) (of-value s h.1)
 
@@ -70,7 +70,7 @@ module _ (d : Data) where
   of-real None h = All-nil (ObjIn d)
   of-real (Some y) h = of-full y h
 
-  of-id : (o : ObjId) → ObjIn d o → All (ObjIn d) (o ∷ [])
+  pub of-id : (o : ObjId) → ObjIn d o → All (ObjIn d) (o ∷ [])
   of-id o h = All-cons (ObjIn d) o [] h (All-nil (ObjIn d))
 
   of-held : (y : Held) → HeldIn d y → All (ObjIn d) (in_held y)
@@ -100,7 +100,7 @@ module _ (d : Data) where
 -- ---- what a home owned it still owns
 
 module _ (d d' : Data) (s : StaysOwn d d') (home : Side) where
-  ids-own : (os : List ObjId) → All (ObjIn d) os → All (IsOwn d home) os → All (IsOwn d' home) os
+  pub ids-own : (os : List ObjId) → All (ObjIn d) os → All (IsOwn d home) os → All (IsOwn d' home) os
   ids-own os h k = λ n o i. s home (slice_index_or os n o) (h n o i) (k n o i)
 
   are-own : (ys : List Held) → AreIn d ys → AreOwn d home ys → AreOwn d' home ys
@@ -206,7 +206,7 @@ contained-after m m' d d' f f' l l' q log e i h c s t o =
 
 -- ---- what is kept
 
-no-shadow : (k later : CellKind) → KeepsKind k later → is_shadow k ≡ false → is_shadow later ≡ false
+pub no-shadow : (k later : CellKind) → KeepsKind k later → is_shadow k ≡ false → is_shadow later ≡ false
 no-shadow kind.Plain later h s = rw h refl
 no-shadow kind.Array later h s = rw h refl
 no-shadow (kind.Function code) later h s = rw h refl
@@ -227,6 +227,7 @@ kept-own home d d' k side o i h = by (slice_get_cases d.cells o.0).1
         let r = k.cells o c e in
         let own : (c.home ≡ side) × (is_shadow c.kind ≡ false) = rw e at h in
         rw r.1 (r.2.home ∙ own.0, no-shadow c.kind r.0.kind r.2.kind own.1)
+
     by : ((c : Cell) × (o.0 < length d.cells) × (slice_get d.cells o.0 ≡ Some c) × (get_or d.cells o.0 c ≡ c))
         ⊎ ((length d.cells ≤ o.0) × (slice_get d.cells o.0 ≡ None)) → IsOwn d' side o
     by (inl p) = there p.0 p.2

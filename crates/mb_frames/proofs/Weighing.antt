@@ -94,7 +94,7 @@ of-wait p (Across z home (move.Entered y t)) h = absurd h.1
 
 -- the top frame starts, or the outcome is there
 TopFits : {A : Type 0} → Frame → Option A → Type 0
-TopFits y done = IsWait y → done_weight done ≡ 9
+TopFits y ended = IsWait y → done_weight ended ≡ 9
 
 abbrev pub AreWaits : List Waiting → Type 0
 AreWaits [] = Unit {0}
@@ -128,19 +128,19 @@ start-or-wait (x.Collect t) s h = s
 start-or-wait (x.Membrane t) s h = s
 start-or-wait (x.Entry t) s h = s
 
-top-fits : {A : Type 0} (below : List Waiting) (top : Waiting) (done : Option A)
-    → HasItsOutcome (below ++ (top ∷ [])) done → TopFits top.frame done
+top-fits : {A : Type 0} (below : List Waiting) (top : Waiting) (ended : Option A)
+    → HasItsOutcome (below ++ (top ∷ [])) ended → TopFits top.frame ended
 unfolding TopFits
 top-fits [] top None h = λ k. absurd (start-or-wait top.frame h k)
 top-fits [] top (Some y) h = λ k. refl
-top-fits (y ∷ []) top done h = top-fits [] top done h.1
-top-fits (y ∷ z ∷ ys) top done h = top-fits (z ∷ ys) top done h.1
+top-fits (y ∷ []) top ended h = top-fits [] top ended h.1
+top-fits (y ∷ z ∷ ys) top ended h = top-fits (z ∷ ys) top ended h.1
 
-pub below-waits : {A : Type 0} (below : List Waiting) (top : Waiting) (done : Option A)
-    → HasItsOutcome (below ++ (top ∷ [])) done → AreWaits below
-below-waits [] top done h = tt
-below-waits (y ∷ []) top done h = (h.0, tt)
-below-waits (y ∷ z ∷ ys) top done h = (h.0, below-waits (z ∷ ys) top done h.1)
+pub below-waits : {A : Type 0} (below : List Waiting) (top : Waiting) (ended : Option A)
+    → HasItsOutcome (below ++ (top ∷ [])) ended → AreWaits below
+below-waits [] top ended h = tt
+below-waits (y ∷ []) top ended h = (h.0, tt)
+below-waits (y ∷ z ∷ ys) top ended h = (h.0, below-waits (z ∷ ys) top ended h.1)
 
 top-waits : (below : List Waiting) → AreWaits below → top_weight below ≡ 0
 top-waits [] h = refl
@@ -153,8 +153,8 @@ top-pushed [] y ys = refl
 top-pushed (z ∷ []) y ys = refl
 top-pushed (z ∷ u ∷ zs) y ys = top-pushed (u ∷ zs) y ys
 
-stack-before : {A : Type 0} (below : List Waiting) (top : Waiting) (done : Option A)
-    → stack_weight (below ++ (top ∷ [])) done ≡ 2 * length below + 2 + start_weight top.frame + done_weight done
+stack-before : {A : Type 0} (below : List Waiting) (top : Waiting) (ended : Option A)
+    → stack_weight (below ++ (top ∷ [])) ended ≡ 2 * length below + 2 + start_weight top.frame + done_weight ended
 stack-before below top done =
     omega (arith, length-append below (top ∷ []), top-pushed below top [])
 
@@ -182,30 +182,30 @@ stack-after begun p below (Across z home (move.Entered y t)) h k = absurd k.1
 
 -- a passage weighs less than the top frame, with the outcome and what is charged
 passage-falls : {A : Type 0} (n : Names) (fs : List Form) (s : ℕ) (y : Frame) (o : Outcome) (g : Graph) (m : Passage)
-    (done : Option A) → TopFits y done → (IsEntered (move_of m) → IsBegin y)
+    (ended : Option A) → TopFits y ended → (IsEntered (move_of m) → IsBegin y)
     → MayPass (under_way y) (frame_row n fs s y o g) m
-    → passage_weight m < 2 + start_weight y + done_weight done + 16 * charge (frame_row n fs s y o g) (move_of m)
+    → passage_weight m < 2 + start_weight y + done_weight ended + 16 * charge (frame_row n fs s y o g) (move_of m)
 unfolding TopFits
-passage-falls n fs s (x.Begin t) o g m done h e k = omega (arith, of-begin g (row (task_in n s t) g) m (done_weight done) k)
-passage-falls n fs s (x.Begun t) o g m done h e k = omega (arith, of-begun g (row (task_in n s t) g) m (done_weight done) k e)
-passage-falls n fs s (x.Anew t) o g m done h e k = omega (arith, of-anew (row (task_in n s t) g) m (done_weight done) k e)
-passage-falls n fs s (x.Expr t) o g m done h e k =
+passage-falls n fs s (x.Begin t) o g m ended h e k = omega (arith, of-begin g (row (task_in n s t) g) m (done_weight ended) k)
+passage-falls n fs s (x.Begun t) o g m ended h e k = omega (arith, of-begun g (row (task_in n s t) g) m (done_weight ended) k e)
+passage-falls n fs s (x.Anew t) o g m ended h e k = omega (arith, of-anew (row (task_in n s t) g) m (done_weight ended) k e)
+passage-falls n fs s (x.Expr t) o g m ended h e k =
     omega (arith, of-wait (frame_row n fs s (x.Expr t) o g) m k, h tt)
-passage-falls n fs s (x.Stmt t) o g m done h e k =
+passage-falls n fs s (x.Stmt t) o g m ended h e k =
     omega (arith, of-wait (frame_row n fs s (x.Stmt t) o g) m k, h tt)
-passage-falls n fs s (x.Call t) o g m done h e k =
+passage-falls n fs s (x.Call t) o g m ended h e k =
     omega (arith, of-wait (frame_row n fs s (x.Call t) o g) m k, h tt)
-passage-falls n fs s (x.Reflect t) o g m done h e k =
+passage-falls n fs s (x.Reflect t) o g m ended h e k =
     omega (arith, of-wait (frame_row n fs s (x.Reflect t) o g) m k, h tt)
-passage-falls n fs s (x.Array t) o g m done h e k =
+passage-falls n fs s (x.Array t) o g m ended h e k =
     omega (arith, of-wait (frame_row n fs s (x.Array t) o g) m k, h tt)
-passage-falls n fs s (x.Proxy t) o g m done h e k =
+passage-falls n fs s (x.Proxy t) o g m ended h e k =
     omega (arith, of-wait (frame_row n fs s (x.Proxy t) o g) m k, h tt)
-passage-falls n fs s (x.Collect t) o g m done h e k =
+passage-falls n fs s (x.Collect t) o g m ended h e k =
     omega (arith, of-wait (frame_row n fs s (x.Collect t) o g) m k, h tt)
-passage-falls n fs s (x.Membrane t) o g m done h e k =
+passage-falls n fs s (x.Membrane t) o g m ended h e k =
     omega (arith, of-wait (frame_row n fs s (x.Membrane t) o g) m k, h tt)
-passage-falls n fs s (x.Entry t) o g m done h e k =
+passage-falls n fs s (x.Entry t) o g m ended h e k =
     omega (arith, of-wait (frame_row n fs s (x.Entry t) o g) m k, h tt)
 
 pub weight-falls : (m m' : Machine) (d d' : Data) (f f' : ℕ) (l l' : Written) (q : Stepped m m' d d' f f' l l')

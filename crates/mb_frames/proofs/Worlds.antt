@@ -13,7 +13,7 @@ use Rattle.mb_world.specs.declared.cell.CellKind.{CellKind}
 use Rattle.mb_world.specs.declared.cell.CellKind.TheVariants as kind
 use Rattle.std.proofs.Common.{None, Some, inl, inr, refl, ◌∙◌, ◌≡◌}
 
-kind-same : (k : CellKind) → KeepsKind k k
+pub kind-same : (k : CellKind) → KeepsKind k k
 kind-same kind.Plain = refl
 kind-same kind.Array = refl
 kind-same (kind.Function code) = refl
@@ -39,7 +39,7 @@ kind-then (kind.Membrane behind shadow) b c h k = rw h at k
 kind-then (kind.Shadow shape) b c h k = rw h at k
 kind-then (kind.Collection coll) b c h k = rw h at k
 
-cell-same : (d : Data) (c : Cell) → KeepsCell d d c c
+pub cell-same : (d : Data) (c : Cell) → KeepsCell d d c c
 cell-same d c = record {
   home = refl;
   label = refl;

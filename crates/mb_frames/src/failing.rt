@@ -1,5 +1,11 @@
 // Errors that the machine throws.
-ghost use Rattle.std.specs.Prelude.{◌≡◌, ◌<◌, ℕ, Bool, OnErr};
+ghost use Rattle.std.specs.Prelude.{◌≡◌, ◌<◌, ℕ, Bool, false, length, IfOk, OnErr, OnOk};
+ghost use Rattle.mb_base.specs.declared.value.Value.TheVariants as v;
+ghost use Rattle.mb_world.specs.Contained.{Contained, Paired};
+ghost use Rattle.mb_world.specs.Data.{obj_id};
+ghost use Rattle.mb_frames.specs.declared.frame.Move.TheVariants as move;
+ghost use Rattle.mb_frames.specs.declared.task.Outcome.TheVariants as o;
+ghost use Rattle.mb_frames.specs.Wholeness.{KeptWorld};
 ghost use Rattle.mb_model.specs.Writing.{fail as fail_row};
 ghost use Rattle.mb_model.specs.Meaning.{finished};
 ghost use Rattle.mb_world.specs.Ids.{HasItsIds};
@@ -19,6 +25,9 @@ pub fn fail(w: &mut World, home: Side, kind: ErrorKind) -> Result<Move, Halt>
     requires ids { HasItsIds w.old }
     ensures step { (begun : Bool) (f : ℕ) (l : Written) →
         Step home begun result w.old w.new f f l l (fail_row home.0 kind finished) }
+    ensures thrown { IfOk result (λ m. m ≡ move.Done (o.Throw (v.Object (obj_id (length w.old.cells))))) }
+    ensures kept_world { OnOk result
+        (w.old.joined ≡ false → Contained w.old → Paired w.old → KeptWorld home w.old w.new) }
     ensures kept { OnErr result (w.new ≡ w.old) }
 {
     match w.built_in(home, error_place(&kind)) {

@@ -1,5 +1,5 @@
 // What follows for a machine from what its steps did: laws over the definitions, so the bodies are empty.
-ghost use Rattle.std.specs.Prelude.{◌≡◌, ◌<◌, ◌≤◌, ◌-◌, ◌++◌, ◌∷◌, [], List, ℕ, Bool, true, false, Result, Ok, Err};
+ghost use Rattle.std.specs.Prelude.{All, Option, Some, ◌≡◌, ◌<◌, ◌≤◌, ◌-◌, ◌++◌, ◌∷◌, [], List, ℕ, Bool, true, false, Result, Ok, Err};
 ghost use Rattle.mb_base.specs.declared.value.Side.{Side};
 ghost use Rattle.mb_base.specs.declared.value.Value.{Value};
 ghost use Rattle.mb_model.specs.Engine.{meaning, exec, Spent, Do, ending, charged_row};
@@ -8,9 +8,18 @@ ghost use Rattle.mb_model.specs.Task as model;
 ghost use Rattle.mb_model.specs.Writing.{Row, is_value, throw, answer, again};
 ghost use Rattle.mb_model.specs.Trace.Entries.{with_entry};
 ghost use Rattle.mb_world.specs.Graph.{Graph, Item};
-ghost use Rattle.mb_world.specs.Contained.{Contained, Paired};
-ghost use Rattle.mb_world.specs.Data.{Data};
-ghost use Rattle.mb_world.specs.Ids.{HasItsIds, ValueIn};
+ghost use Rattle.mb_text.specs.Texts.{with_text};
+ghost use Rattle.mb_world.specs.Contained.{Contained, IsOwn, Paired, in_cell, in_job, in_kind, in_scope, in_value};
+ghost use Rattle.mb_world.specs.Data.{Data, cell_at, is_counted, kind_stand, made, scope_at, set_cell, set_scope, with_queue, with_scope, with_texts};
+ghost use Rattle.mb_world.specs.Formed.{is_of_membrane};
+ghost use Rattle.mb_world.specs.declared.cell.Cell.{Cell};
+ghost use Rattle.mb_world.specs.declared.cell.CellKind.{CellKind};
+ghost use Rattle.mb_world.specs.declared.scope.Scope.{Scope};
+ghost use Rattle.mb_world.specs.declared.scope.Job.{Job};
+ghost use Rattle.mb_base.specs.declared.value.ObjId.{ObjId};
+ghost use Rattle.mb_base.specs.declared.value.ScopeId.{ScopeId};
+ghost use Rattle.mb_base.specs.declared.value.StrId.{StrId};
+ghost use Rattle.mb_world.specs.Ids.{HasItsIds, KindIn, ObjIn, ValueIn};
 ghost use Rattle.mb_world.specs.Image.{Image, Resolve, names_of};
 ghost use Rattle.mb_frames.specs.declared.task.Task.{Task};
 ghost use Rattle.mb_frames.specs.declared.task.Outcome.{Outcome};
@@ -32,7 +41,7 @@ ghost use Rattle.mb_frames.specs.Held.{AreIn};
 ghost use Rattle.mb_frames.specs.Resolved.{done_in, task_in};
 ghost use Rattle.mb_frames.specs.Standing.{Tasks, ByRows, Logged, Passage, Here, left_by, hands, row_of, under_way, stack_gives, RestBy, forms_at, frame_row, entry_by};
 ghost use Rattle.mb_frames.specs.Sorts.{Sort, IsOfSort, fits, frame_sort, task_gives, waits_for};
-ghost use Rattle.mb_frames.specs.Wholeness.{AreOwn, AreSound, FormedMachine, GoesOnFormed, IsOwnBy, IsStackSound, KeptWorld, MachineContained, StandsAt, StaysFound, StaysOwn, StepsKept, sort_by};
+ghost use Rattle.mb_frames.specs.Wholeness.{AreOwn, AreSound, FormedMachine, GoesOnFormed, IsOwnBy, IsStackSound, KeepsCell, KeptWorld, MachineContained, StandsAt, StaysFound, StaysOwn, StepsKept, sort_by};
 ghost use Rattle.mb_frames.specs.Stepping.{Written, Stepped, Stopped, Sure, Step, PutsNone, charged_by, IsWait, weight, HasItsOutcome};
 
 /// The meaning does each task's row, and so does what starts anew.
@@ -137,6 +146,28 @@ pub fn a_contained_machine_stays_contained()
 pub fn a_world_is_kept_in_steps()
     ensures stays { (home : Side) (d : Data) → Contained d → Paired d → KeptWorld home d d }
     ensures goes_on { (home : Side) (a b c : Data) → KeptWorld home a b → KeptWorld home b c → KeptWorld home a c }
+{}
+
+/// Each call that changes a world at one home keeps it: a text, an object that is made, a cell that changed, a scope, one
+/// that changed, and the jobs of a side.
+pub fn calls_keep_their_worlds()
+    ensures text { (home : Side) (d : Data) (t : List ℕ) → HasItsIds d → Contained d → Paired d →
+        KeptWorld home d (with_texts d (with_text d.texts t)) }
+    ensures made { (home : Side) (d : Data) (k : CellKind) (proto : Value) (label : Option StrId) → HasItsIds d →
+        Contained d → Paired d → is_counted (kind_stand k) ≡ true → KindIn d k → ValueIn d proto →
+        All (IsOwn d home) (in_kind k) → All (IsOwn d home) (in_value proto) →
+        KeptWorld home d (made d home k proto label) }
+    ensures changed { (home : Side) (d : Data) (id : ObjId) (c e : Cell) → HasItsIds d → Contained d → Paired d →
+        cell_at d id ≡ Some c → c.home ≡ home → is_of_membrane c.kind ≡ false →
+        KeepsCell d (set_cell d id e) c e → All (IsOwn d home) (in_cell e) → All (ObjIn d) (in_cell e) →
+        KeptWorld home d (set_cell d id e) }
+    ensures scope { (home : Side) (d : Data) (s : Scope) → HasItsIds d → Contained d → Paired d → s.home ≡ home →
+        All (IsOwn d s.home) (in_scope s) → KeptWorld home d (with_scope d s) }
+    ensures changed_scope { (home : Side) (d : Data) (id : ScopeId) (s t : Scope) → HasItsIds d → Contained d →
+        Paired d → scope_at d id ≡ Some s → s.home ≡ home → t.home ≡ home → All (IsOwn d t.home) (in_scope t) →
+        KeptWorld home d (set_scope d id t) }
+    ensures queue { (home : Side) (d : Data) (jobs : List Job) → HasItsIds d → Contained d → Paired d →
+        All (λ (x : Job). All (IsOwn d home) (in_job x)) jobs → KeptWorld home d (with_queue d home jobs) }
 {}
 
 /// A side that has the built-ins has the prototypes of errors.

@@ -105,26 +105,16 @@ fn with_prototype(alloc: Global) -> Result<World, NoMemory> {
     Ok(world)
 }
 
-// The object that a step throws.
-fn thrown(answer: Result<Move, Halt>) -> Option<u32> {
-    match answer {
-        Ok(Move::Done(Outcome::Throw(Value::Object(id)))) => Some(id.0),
-        _ => None,
-    }
-}
-
 // Throws an error of the first side.
-fn throws(world: &mut World) -> Option<u32> {
+fn throws(world: &mut World) -> bool {
     let _texts = world.texts();
-    if world.built_in(Side(0), 50).is_none() {
-        return None;
-    }
-    thrown(fail(world, Side(0), ErrorKind::TypeError))
+    world.built_in(Side(0), 50).is_some() && fail(world, Side(0), ErrorKind::TypeError).is_ok()
 }
 
 #[test]
 fn an_error_is_a_new_object(rt: HostRuntime) -> Result<(), Fail> {
     let mut world = with_prototype(rt.alloc())?;
-    assert_eq!(rt; throws(&mut world), Some(1));
+    assert!(rt; throws(&mut world));
+    assert_eq!(rt; world.objects(), 1);
     Ok(())
 }
