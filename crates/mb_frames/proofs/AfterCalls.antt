@@ -5,17 +5,17 @@ use Rattle.mb_base.specs.declared.value.StrId.{StrId}
 use Rattle.mb_base.specs.declared.value.Value.{Value}
 use Rattle.mb_frames.proofs.Changing.{carried, of-cell-in, of-job-in, of-kind, of-scope-in, paired-from}
 use Rattle.mb_frames.proofs.Owning.{ids-own, no-shadow, of-value}
-use Rattle.mb_frames.proofs.Worlds.{cell-same, kind-same}
+use Rattle.mb_frames.proofs.Worlds.{kind-same}
 use Rattle.mb_frames.specs.Wholeness.{KeepsCell, KeepsKind, KeptWorld, StaysOwn, cell_view, key_sort}
 use Rattle.mb_view.proofs.Sorted.{sorted-refl}
 use Rattle.mb_world.proofs.AfterCalls.{of-made}
-use Rattle.mb_world.proofs.Grow.{All-at, Grows-same}
+use Rattle.mb_world.proofs.Grow.{All-at}
 use Rattle.mb_world.proofs.Images.{full-grows, key-grows, map-same, value-grows}
 use Rattle.mb_world.specs.Contained.{Contained, HasItsTwo, IsOfTable, IsOwn, Opposite, Paired, in_cell, in_full, in_job, in_kind, in_scope, in_value, is_shadow, numbered}
 use Rattle.mb_world.specs.Data.{Data, cell_at, first_props, is_array, is_counted, kind_stand, made, new_cell, queue_of, same_side}
 use Rattle.mb_world.specs.Formed.{is_of_membrane}
 use Rattle.mb_world.specs.Grows.{Grows}
-use Rattle.mb_world.specs.Ids.{CellIn, HasItsIds, JobIn, KindIn, ObjIn, PropertyIn, ScopeOf, ValueIn}
+use Rattle.mb_world.specs.Ids.{CellIn, HasItsIds, JobIn, KindIn, PropertyIn, ScopeOf, ValueIn}
 use Rattle.mb_world.specs.Image.{full_in, key_in, names_of}
 use Rattle.mb_world.specs.Key.{PropertyKey, same_key}
 use Rattle.mb_world.specs.Value.{Val}
@@ -25,7 +25,7 @@ use Rattle.mb_world.specs.declared.cell.CellKind.{CellKind}
 use Rattle.mb_world.specs.declared.cell.CellKind.TheVariants as kind
 use Rattle.mb_world.specs.declared.scope.Job.{Job}
 use Rattle.mb_world.specs.declared.scope.Scope.{Scope}
-use Rattle.std.proofs.Common.{Bool, arith, List, None, Option, Some, [], ap, cond, false, inl, inr, length, map, not, refl, slice_get, sym, true, true≢false, zero, suc, ℕ, ◌++◌, ◌<◌, ◌∙◌, ◌∷◌, ◌≡◌, ◌⊎◌}
+use Rattle.std.proofs.Common.{Bool, arith, List, Option, Some, [], ap, cond, false, inl, inr, not, refl, slice_get, sym, true, true≢false, zero, suc, ℕ, ◌++◌, ◌<◌, ◌∙◌, ◌∷◌, ◌≡◌, ◌⊎◌}
 use Rattle.std.proofs.lemmas.Bool.Decides.{nat_tests}
 use Rattle.std.proofs.lemmas.List.Elements.{All-append, All-cons, All-head, All-nil, All-tail}
 use Rattle.std.specs.List.{filter, flat_map}

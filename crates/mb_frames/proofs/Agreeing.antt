@@ -26,7 +26,6 @@ use Rattle.mb_world.specs.Ids.{FullIn, KeyIn, Maybe, ObjIn, TextIn, ValueIn}
 use Rattle.mb_world.specs.Image.{Names, Resolve, desc_in, full_in, key_in, names_of, object_in, text_in}
 use Rattle.mb_world.specs.Value.{Val}
 use Rattle.mb_base.specs.declared.value.Value.{Value}
-use Rattle.mb_base.specs.declared.value.Value.TheVariants as v
 use Rattle.mb_frames.specs.declared.task.Method.{Method}
 use Rattle.mb_frames.specs.declared.task.Method.TheVariants as method
 use Rattle.mb_frames.specs.declared.task.Request.{Request}
@@ -39,8 +38,6 @@ use Rattle.mb_frames.specs.declared.task.Outcome.{Outcome}
 use Rattle.mb_frames.specs.declared.task.Outcome.TheVariants as o
 use Rattle.mb_frames.specs.declared.expressions.Reference.{Reference}
 use Rattle.mb_frames.specs.declared.expressions.Reference.TheVariants as reference
-use Rattle.mb_frames.specs.declared.expressions.After.{After}
-use Rattle.mb_frames.specs.declared.expressions.After.TheVariants as after
 use Rattle.mb_frames.specs.declared.expressions.ExprFrame.{ExprFrame}
 use Rattle.mb_frames.specs.declared.expressions.ExprFrame.TheVariants as e
 use Rattle.mb_frames.specs.declared.statements.StmtFrame.{StmtFrame}
@@ -63,7 +60,6 @@ use Rattle.mb_frames.specs.declared.arrays.ArrayFrame.{ArrayFrame}
 use Rattle.mb_frames.specs.declared.arrays.ArrayFrame.TheVariants as y
 use Rattle.mb_frames.specs.declared.proxies.ProxyFrame.{ProxyFrame}
 use Rattle.mb_frames.specs.declared.proxies.ProxyFrame.TheVariants as p
-use Rattle.mb_frames.specs.declared.collections.Visiting.{Visiting}
 use Rattle.mb_frames.specs.declared.collections.CollectFrame.{CollectFrame}
 use Rattle.mb_frames.specs.declared.collections.CollectFrame.TheVariants as l
 use Rattle.mb_frames.specs.declared.crossing.MembraneFrame.{MembraneFrame}
@@ -72,8 +68,6 @@ use Rattle.mb_frames.specs.declared.frame.Given.{Given}
 use Rattle.mb_frames.specs.declared.frame.Given.TheVariants as given
 use Rattle.mb_frames.specs.declared.frame.Entering.{Entering}
 use Rattle.mb_world.specs.Graph as graph
-use Rattle.mb_frames.specs.declared.frame.Frame.{Frame}
-use Rattle.mb_frames.specs.declared.frame.Frame.TheVariants as x
 use Rattle.mb_model.specs.Task as model
 use Rattle.mb_model.specs.Writing as model_writing
 use Rattle.mb_desc.specs.declared.descriptor.Full.TheVariants.{Datum, Accessor}

@@ -4,16 +4,14 @@ use Rattle.mb_base.specs.declared.value.Side.{Side}
 use Rattle.mb_base.specs.declared.value.Value.{Value}
 use Rattle.mb_desc.specs.declared.descriptor.Full.{Full}
 use Rattle.mb_base.specs.declared.value.Key.{Key}
-use Rattle.mb_frames.proofs.Owning.{ids-own, of-full, of-id, of-value}
-use Rattle.mb_frames.specs.Wholeness.{KeepsCell, KeepsKind, KeptWorld, StaysOwn, cell_view}
+use Rattle.mb_frames.proofs.Owning.{of-full, of-id, of-value}
+use Rattle.mb_frames.specs.Wholeness.{KeepsCell, KeepsKind}
 use Rattle.mb_world.proofs.Grow.{All-at}
-use Rattle.mb_world.proofs.Images.{full-grows, key-grows, map-same, value-grows}
-use Rattle.mb_world.specs.Contained.{Contained, HasItsTwo, HasProxyOf, IsMembrane, IsOfTable, IsOwn, Opposite, Paired, PairedFrom, in_cell, in_full, in_id, in_job, in_kind, in_option, in_pair, in_scope, in_value, is_shadow}
-use Rattle.mb_world.specs.Data.{Counted, Data, Hidden, cell_at, is_counted, kind_stand, number_if, numbers, queue_of, serial_of, stand, stands}
+use Rattle.mb_world.specs.Contained.{HasProxyOf, IsMembrane, Paired, PairedFrom, in_cell, in_full, in_id, in_job, in_kind, in_option, in_pair, in_scope, in_value}
+use Rattle.mb_world.specs.Data.{Counted, Data, Hidden, cell_at, kind_stand, numbers, serial_of, stand, stands}
 use Rattle.mb_world.specs.Formed.{is_of_membrane}
 use Rattle.mb_world.specs.Grows.{Grows}
-use Rattle.mb_world.specs.Ids.{BoundIn, CellIn, FullIn, HasItsIds, JobIn, KindIn, Maybe, ObjIn, PairIn, PropertyIn, ScopeOf, ValueIn}
-use Rattle.mb_world.specs.Image.{full_in, key_in, names_of}
+use Rattle.mb_world.specs.Ids.{BoundIn, CellIn, HasItsIds, JobIn, KindIn, Maybe, ObjIn, PairIn, PropertyIn, ScopeOf, ValueIn}
 use Rattle.mb_world.specs.declared.cell.Cell.{Cell}
 use Rattle.mb_world.specs.declared.cell.CellKind.{CellKind}
 use Rattle.mb_world.specs.declared.cell.CellKind.TheVariants as kind
@@ -21,7 +19,7 @@ use Rattle.mb_world.specs.declared.entry.Entry.{Entry}
 use Rattle.mb_world.specs.declared.scope.Job.{Job}
 use Rattle.mb_world.specs.declared.scope.Job.TheVariants as j
 use Rattle.mb_world.specs.declared.scope.Scope.{Scope}
-use Rattle.std.proofs.Common.{Bool, List, None, Option, Some, [], ap, arith, false, get_or, inl, inr, length, map, option_map, refl, slice_get, subst, sym, true, ℕ, ◌++◌, ◌<◌, ◌∙◌, ◌∷◌, ◌≡◌, ◌≤◌, ◌⊎◌}
+use Rattle.std.proofs.Common.{List, None, Option, Some, [], ap, arith, get_or, inl, inr, length, option_map, refl, slice_get, subst, sym, true, ℕ, ◌++◌, ◌<◌, ◌∙◌, ◌∷◌, ◌≡◌, ◌≤◌, ◌⊎◌}
 use Rattle.std.proofs.lemmas.List.Elements.{All-append, All-head, All-nil, All-tail, All-weaker}
 use Rattle.std.proofs.lemmas.Option.{get_or_from_slice_get, slice_get-map, slice_get_cases}
 use Rattle.std.specs.List.{flat_map}

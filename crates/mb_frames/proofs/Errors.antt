@@ -5,7 +5,7 @@ use Rattle.std.proofs.Common.{◌||◌}
 use Rattle.mb_world.specs.Data.{same_side}
 use Rattle.std.proofs.Common.{◌<◌, ◌≤◌, ◌⊎◌}
 use Rattle.std.proofs.Common.{true≢false}
-use Rattle.std.proofs.Common.{◌&&◌, Bool, None, Ok, Option, Some, [], ap, arith, eqb-true, false, get_or, length, length-append, option_map, refl, slice_get, sym, true, ℕ, ◌∙◌, ◌∷◌, ◌≡◌, ◌≢◌}
+use Rattle.std.proofs.Common.{◌&&◌, Bool, None, Ok, Option, Some, [], ap, arith, eqb-true, false, get_or, length, length-append, option_map, refl, slice_get, sym, true, ℕ, ◌∙◌, ◌∷◌, ◌≡◌}
 use Rattle.std.specs.Prelude.{position}
 use Rattle.mb_base.specs.declared.value.ObjId.{ObjId}
 use Rattle.mb_base.specs.declared.value.Side.{Side}
@@ -15,15 +15,12 @@ use Rattle.mb_frames.specs.Failing.{error_place}
 use Rattle.mb_frames.specs.Stepping.{Step, Written}
 use Rattle.mb_frames.specs.Wholeness.{KeptWorld}
 use Rattle.mb_model.specs.Meaning.{finished}
-use Rattle.mb_model.specs.Nodes.BinaryOperators.{joined}
 use Rattle.mb_model.specs.Writing.{fail}
 use Rattle.mb_world.proofs.AfterCalls.{of-made}
-use Rattle.mb_world.proofs.Noted.{same}
 use Rattle.mb_world.specs.Contained.{Contained, IsOwn, Paired, is_shadow}
 use Rattle.mb_world.specs.Data.{AtPlace, Before, Counted, Data, Hidden, Stand, built_in_of, cell_at, kind_stand, made, new_cell, obj_id, serves, stand, stands, stands_at}
 use Rattle.mb_world.specs.Ids.{HasItsIds, ObjIn}
 use Rattle.mb_world.specs.Image.{Names, names_of, object_in, stood}
-use Rattle.mb_world.specs.Intrinsics.{intrinsic}
 use Rattle.mb_world.specs.Laws.{OfObject}
 use Rattle.mb_world.specs.Standard.{error_prototype}
 use Rattle.mb_world.specs.Value.{BuiltIn}
@@ -35,7 +32,6 @@ use Rattle.mb_world.specs.declared.cell.CellKind.TheVariants as kind
 use Rattle.mb_world.specs.declared.cell.ErrorKind.TheVariants.{Error as ErrorKindError, TypeError as ErrorKindType, RangeError as ErrorKindRange, ReferenceError as ErrorKindReference}
 use Rattle.mb_frames.specs.declared.task.Outcome.TheVariants as o
 use Rattle.mb_frames.specs.declared.frame.Move.TheVariants as move
-use Rattle.mb_model.specs.Task as model
 use Rattle.std.proofs.lemmas.List.Elements.{All-cons, All-nil}
 use Rattle.std.proofs.lemmas.List.Quantifiers.{position-Some}
 use Rattle.std.proofs.lemmas.Option.{slice_get-map, get_or_from_slice_get, slice_get_cases}

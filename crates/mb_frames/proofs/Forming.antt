@@ -7,30 +7,27 @@ use Rattle.mb_frames.proofs.Parts.{all-both, all-first, all-then}
 use Rattle.mb_frames.proofs.Stack.{forms-grow}
 use Rattle.mb_frames.proofs.Steps.{Grew-same, Grew-then}
 use Rattle.mb_frames.specs.Failing.{HasErrorPrototype, HasItsBuiltIns, error_place}
-use Rattle.mb_frames.specs.Holding.{MachineIn, frame_held, outcome_held, task_held}
+use Rattle.mb_frames.specs.Holding.{frame_held, outcome_held, task_held}
 use Rattle.mb_frames.specs.Sorts.{AValue, AreLinked, IsOfSort, Sort, fits, frame_sort, stack_sort, task_gives, waits_for}
-use Rattle.mb_frames.specs.Standing.{Here, Logged, at_home, forms_at, left_by}
-use Rattle.mb_frames.specs.Stepping.{Grew, Stepped, Written}
+use Rattle.mb_frames.specs.Standing.{Here, Logged, forms_at, left_by}
+use Rattle.mb_frames.specs.Stepping.{Stepped, Written}
 use Rattle.mb_frames.specs.Wholeness.{AreSound, FormedMachine, GoesOnFormed, IsStackSound, StaysFound, sort_by}
 use Rattle.mb_frames.specs.declared.frame.Frame.{Frame}
-use Rattle.mb_frames.specs.declared.frame.Frame.TheVariants as x
 use Rattle.mb_frames.specs.declared.frame.Move.TheVariants as move
 use Rattle.mb_frames.specs.declared.machine.Machine.{Machine}
 use Rattle.mb_frames.specs.declared.machine.Waiting.{Waiting}
 use Rattle.mb_frames.specs.declared.task.Outcome.{Outcome}
 use Rattle.mb_frames.specs.declared.task.Task.{Task}
 use Rattle.mb_world.proofs.Grow.{ScopeIn-grows, ValueIn-grows}
-use Rattle.mb_world.specs.Data.{Data, Script, built_in_of}
+use Rattle.mb_world.specs.Data.{Data, built_in_of}
 use Rattle.mb_world.specs.Form.{Form}
-use Rattle.mb_world.specs.Formed.{HasBuiltIn}
 use Rattle.mb_world.specs.Graph.{Item}
-use Rattle.mb_world.specs.Graph as graph
 use Rattle.mb_world.specs.Ids.{HasItsIds}
 use Rattle.mb_world.specs.Intrinsics.{intrinsic}
 use Rattle.mb_world.specs.declared.cell.ErrorKind.{ErrorKind}
 use Rattle.mb_world.specs.declared.cell.ErrorKind.TheVariants.{Error as ErrorKindError, TypeError as ErrorKindType, RangeError as ErrorKindRange, ReferenceError as ErrorKindReference}
 use Rattle.std.specs.List.{AllByRecursion}
-use Rattle.std.proofs.Common.{List, None, [], ap, arith, is_some, refl, subst, sym, true, ℕ, ◌++◌, ◌<◌, ◌∙◌, ◌∷◌, ◌≡◌, ◌≢◌, ◌≤◌}
+use Rattle.std.proofs.Common.{List, None, [], arith, is_some, refl, subst, sym, true, ℕ, ◌++◌, ◌<◌, ◌∷◌, ◌≡◌, ◌≢◌}
 
 -- ---- what was found
 

@@ -10,8 +10,6 @@ use Rattle.mb_frames.specs.Holding.{StackIn, frame_held}
 use Rattle.mb_frames.specs.Kinds.{is_node}
 use Rattle.mb_frames.specs.Standing.{forms_at}
 use Rattle.mb_frames.specs.Wholeness.{AreFields, AreSound, IsProperty, IsSound, IsStackSound, StaysFound}
-use Rattle.mb_model.specs.Nodes.BinaryOperators.{wholes}
-use Rattle.mb_model.specs.Objects.Rules.{get, set}
 use Rattle.mb_world.specs.Data.{Data}
 use Rattle.mb_world.specs.Form.{Form}
 use Rattle.mb_world.specs.Formed.{IsCallableOrNot}

@@ -9,8 +9,7 @@ use Rattle.mb_frames.specs.Held.{AreIn, DescIn, Held, HeldBegan, HeldCallable, H
 use Rattle.mb_frames.specs.Holding.{MachineIn, StackIn, done_held, frame_held, move_held, passage_held, task_held}
 use Rattle.mb_frames.specs.Standing.{Across, Here, Logged, Passage, above, at_home, done_by, left_by, move_of, row_of, under_way}
 use Rattle.mb_frames.specs.Stepping.{HasItsOutcome, IsWait, MayCross, MayPass, Stepped, Written}
-use Rattle.mb_model.specs.Operations.Calls.{set_in}
-use Rattle.mb_model.specs.Writing.{Row, value_in}
+use Rattle.mb_model.specs.Writing.{Row}
 use Rattle.mb_world.specs.Data.{Data}
 use Rattle.mb_world.specs.Graph.{Item}
 use Rattle.mb_world.specs.Grows.{Grows}

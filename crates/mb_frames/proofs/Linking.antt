@@ -6,7 +6,7 @@ use Rattle.mb_frames.specs.declared.frame.Frame.{Frame}
 use Rattle.mb_frames.specs.declared.frame.Frame.TheVariants as x
 use Rattle.mb_frames.specs.declared.machine.Waiting.{Waiting}
 use Rattle.mb_world.specs.Form.{Form}
-use Rattle.std.proofs.Common.{List, [], ap, false, refl, sym, true, true≢false, ◌++◌, ◌∙◌, ◌∷◌, ◌≡◌}
+use Rattle.std.proofs.Common.{List, [], ap, refl, sym, true, true≢false, ◌++◌, ◌∙◌, ◌∷◌, ◌≡◌}
 
 -- ---- sorts
 

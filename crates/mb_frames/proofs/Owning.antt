@@ -6,14 +6,13 @@ use Rattle.mb_base.specs.declared.value.Value.TheVariants as v
 use Rattle.mb_desc.specs.declared.descriptor.Desc.{Desc}
 use Rattle.mb_desc.specs.declared.descriptor.Full.{Full}
 use Rattle.mb_desc.specs.declared.descriptor.Full.TheVariants.{Datum, Accessor}
-use Rattle.mb_frames.proofs.Growing.{are-first, are-second, below-in}
+use Rattle.mb_frames.proofs.Growing.{below-in}
 use Rattle.mb_frames.proofs.Parts.{all-both, all-first, same-ends, same-lasts, same-starts}
 use Rattle.mb_frames.specs.Held.{AreIn, DescIn, Held, HeldBegan, HeldCallable, HeldCollection, HeldConstructor, HeldDesc, HeldEntered, HeldFields, HeldFull, HeldIn, HeldKey, HeldKeyIf, HeldKeys, HeldNode, HeldNodeIf, HeldObject, HeldPlace, HeldPrototype, HeldReal, HeldScope, HeldText, HeldTextIf, HeldValue, HeldValues}
 use Rattle.mb_frames.specs.Holding.{MachineIn, StackIn, done_held, frame_held, move_held, task_held}
-use Rattle.mb_frames.specs.Standing.{Across, Here, Logged, Passage, above, at_home, done_by, home_of, left_by, move_of, row_of, under_way}
+use Rattle.mb_frames.specs.Standing.{Across, Here, Logged, Passage, above, done_by, home_of, left_by, move_of, row_of, under_way}
 use Rattle.mb_frames.specs.Stepping.{MayPass, Stepped, Written}
 use Rattle.mb_frames.specs.Wholeness.{AreAtHome, AreOwn, IsOwnBy, Kept, KeptWorld, KeepsKind, MachineContained, StandsAt, StaysOwn, StepsKept, desc_values, home_above, in_held}
-use Rattle.mb_frames.specs.declared.frame.Frame.TheVariants as x
 use Rattle.mb_frames.specs.declared.frame.Move.{Move}
 use Rattle.mb_frames.specs.declared.frame.Move.TheVariants as move
 use Rattle.mb_frames.specs.declared.machine.Machine.{Machine}

@@ -8,7 +8,7 @@ use Rattle.mb_frames.proofs.Scoped.{filter-set}
 use Rattle.mb_frames.specs.Wholeness.{KeepsCell, KeepsKind, KeptWorld}
 use Rattle.mb_world.proofs.Grow.{All-at}
 use Rattle.mb_world.proofs.Worlds.{Grows-set}
-use Rattle.mb_world.specs.Contained.{Contained, HasItsTwo, IsOfTable, IsOwn, Opposite, Paired, in_cell, numbered}
+use Rattle.mb_world.specs.Contained.{Contained, HasItsTwo, IsOfTable, IsOwn, Paired, in_cell}
 use Rattle.mb_world.specs.Data.{Data, cell_at, same_side, set_cell}
 use Rattle.mb_world.specs.Formed.{is_of_membrane}
 use Rattle.mb_world.specs.Grows.{Grows}
@@ -16,7 +16,7 @@ use Rattle.mb_world.specs.Ids.{CellIn, HasItsIds, ObjIn}
 use Rattle.mb_world.specs.declared.cell.Cell.{Cell}
 use Rattle.mb_world.specs.declared.cell.CellKind.{CellKind}
 use Rattle.mb_world.specs.declared.cell.CellKind.TheVariants as kind
-use Rattle.std.proofs.Common.{Bool, List, None, Option, Some, [], ap, false, inl, inr, not, refl, slice_get, slice_set, subst, sym, true, true≢false, zero, suc, ℕ, ◌∙◌, ◌∷◌, ◌≡◌, ◌⊎◌}
+use Rattle.std.proofs.Common.{List, None, Some, [], ap, false, inl, inr, not, refl, slice_get, slice_set, subst, sym, true, true≢false, zero, suc, ℕ, ◌∙◌, ◌∷◌, ◌≡◌, ◌⊎◌}
 use Rattle.std.proofs.lemmas.List.Elements.{All-set}
 use Rattle.std.specs.Prelude.{All}
 

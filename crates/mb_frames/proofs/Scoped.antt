@@ -10,15 +10,14 @@ use Rattle.mb_world.proofs.AfterCalls.{text}
 use Rattle.mb_world.proofs.Grow.{All-at}
 use Rattle.mb_world.proofs.Making.{Grows-scope}
 use Rattle.mb_world.proofs.Worlds.{Grows-queues, Grows-scopes}
-use Rattle.mb_world.specs.Contained.{Contained, IsOwn, Opposite, Paired, in_job, in_scope, numbered}
+use Rattle.mb_world.specs.Contained.{Contained, IsOwn, Paired, in_job, in_scope, numbered}
 use Rattle.mb_world.specs.Data.{Data, cell_at, same_side, scope_at, set_scope, with_queue, with_scope, with_texts}
-use Rattle.mb_world.specs.Formed.{is_of_membrane}
 use Rattle.mb_world.specs.Grows.{Grows}
 use Rattle.mb_world.specs.Ids.{CellIn, HasItsIds}
 use Rattle.mb_world.specs.declared.cell.Cell.{Cell}
 use Rattle.mb_world.specs.declared.scope.Job.{Job}
 use Rattle.mb_world.specs.declared.scope.Scope.{Scope}
-use Rattle.std.proofs.Common.{Bool, List, Option, Some, [], ap, arith, cond, false, nat_eq, not, refl, slice_get, slice_set, subst, sym, true, zero, suc, ℕ, ◌+◌, ◌++◌, ◌<◌, ◌∙◌, ◌∷◌, ◌≡◌}
+use Rattle.std.proofs.Common.{Bool, List, Some, [], ap, arith, cond, false, nat_eq, not, refl, slice_get, slice_set, subst, sym, zero, suc, ℕ, ◌+◌, ◌∙◌, ◌∷◌, ◌≡◌}
 use Rattle.std.proofs.lemmas.Bool.Decides.{nat_tests}
 use Rattle.std.proofs.lemmas.List.Elements.{All-push, All-set}
 use Rattle.std.specs.List.{filter}

@@ -7,7 +7,7 @@ use Rattle.std.proofs.Common.{◌++◌, List, None, Option, [], false, refl, sli
 use Rattle.std.proofs.lemmas.List.Elements.{All-head, All-tail}
 use Rattle.std.specs.Prelude.{All}
 use Rattle.mb_base.specs.declared.value.Side.{Side}
-use Rattle.mb_frames.proofs.Agreeing.{Agrees, array-agrees, call-agrees, collect-agrees, expr-agrees, grown-agree, membrane-agrees, method-agrees, proxy-agrees, reflect-agrees, request-agrees, stmt-agrees, task-agrees}
+use Rattle.mb_frames.proofs.Agreeing.{Agrees, array-agrees, call-agrees, collect-agrees, expr-agrees, grown-agree, membrane-agrees, proxy-agrees, reflect-agrees, stmt-agrees, task-agrees}
 use Rattle.mb_frames.specs.Held.{AreIn}
 use Rattle.mb_frames.specs.Holding.{FrameIn, StackIn, frame_held}
 use Rattle.mb_frames.specs.Resolved.{done_in, task_in}
@@ -17,7 +17,6 @@ use Rattle.mb_frames.specs.Stepping.{Grew, Stepped, Stopped, Written}
 use Rattle.mb_model.proofs.Engine.{given-row, means-charged_row, under-append, under-push}
 use Rattle.mb_model.specs.Engine.{Gives, Res, Spent, and_then, charged_row, exec, meaning, under}
 use Rattle.mb_model.specs.Meaning.{Ends, finished}
-use Rattle.mb_model.specs.Nodes.Evaluation.{task}
 use Rattle.mb_model.specs.Task.{Outcome}
 use Rattle.mb_model.specs.Writing.{Does}
 use Rattle.mb_world.proofs.Images.{program-grows}
@@ -35,7 +34,6 @@ use Rattle.mb_frames.specs.declared.machine.Machine.{Machine}
 use Rattle.mb_frames.specs.declared.task.Outcome.{Outcome as FrameOutcome}
 use Rattle.mb_model.specs.Meaning.{row}
 use Rattle.mb_model.specs.Task as model
-use Rattle.std.specs.List.{AllByRecursion}
 
 -- ---- a frame stands for the same in a world that grew
 

@@ -14,14 +14,12 @@ use Rattle.mb_base.specs.declared.value.Side.{Side}
 use Rattle.mb_frames.specs.Held.{AreIn}
 use Rattle.mb_frames.specs.Holding.{task_held}
 use Rattle.mb_frames.specs.Resolved.{task_in}
-use Rattle.mb_frames.specs.Standing.{Tasks, above, moves}
+use Rattle.mb_frames.specs.Standing.{Tasks, moves}
 use Rattle.mb_frames.specs.Stepping.{Added, Grew, IsCalm, MayMove, Step, Sure, Written, charge}
 use Rattle.mb_model.specs.Engine.{Gives, Pay, Ret, Spent, and_then, exec, leading}
 use Rattle.mb_model.specs.Meaning.{Ends, finished}
-use Rattle.mb_model.specs.Nodes.BinaryOperators.{joined}
 use Rattle.mb_model.specs.Writing.{Row, again, answer, is_value, pass, throw}
 use Rattle.mb_world.proofs.Grow.{Grows-same, Grows-then}
-use Rattle.mb_world.proofs.Noted.{same}
 use Rattle.mb_world.specs.Data.{Data}
 use Rattle.mb_world.specs.Graph.{Graph, Item}
 use Rattle.mb_world.specs.Ids.{ValueIn}

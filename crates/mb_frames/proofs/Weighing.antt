@@ -19,7 +19,6 @@ use Rattle.mb_frames.specs.declared.frame.Move.{Move}
 use Rattle.mb_frames.specs.declared.frame.Move.TheVariants as move
 use Rattle.mb_frames.specs.declared.machine.Waiting.{Waiting}
 use Rattle.mb_frames.specs.declared.machine.Machine.{Machine}
-use Rattle.mb_frames.specs.declared.task.Outcome.{Outcome as FrameOutcome}
 
 -- what a move leaves, beside what was there below it
 move_weight : Move → ℕ

@@ -1,17 +1,16 @@
 -- Worlds that a step of a home keeps: nothing changes, and two steps.
-use Rattle.mb_base.specs.declared.value.ObjId.{ObjId}
 use Rattle.mb_base.specs.declared.value.Side.{Side}
 use Rattle.mb_frames.specs.Wholeness.{KeepsCell, KeepsKind, KeptWorld, cell_view, key_sort}
 use Rattle.mb_view.proofs.Sorted.{sorted-refl, sorted-trans}
 use Rattle.mb_world.proofs.Grow.{Grows-same, Grows-then}
 use Rattle.mb_world.specs.Contained.{Contained, Paired}
-use Rattle.mb_world.specs.Data.{Data, cell_at}
+use Rattle.mb_world.specs.Data.{Data}
 use Rattle.mb_world.specs.Image.{names_of}
 use Rattle.mb_world.specs.Key.{same_key}
 use Rattle.mb_world.specs.declared.cell.Cell.{Cell}
 use Rattle.mb_world.specs.declared.cell.CellKind.{CellKind}
 use Rattle.mb_world.specs.declared.cell.CellKind.TheVariants as kind
-use Rattle.std.proofs.Common.{None, Some, inl, inr, refl, ◌∙◌, ◌≡◌}
+use Rattle.std.proofs.Common.{None, Some, inl, inr, refl, ◌∙◌}
 
 pub kind-same : (k : CellKind) → KeepsKind k k
 kind-same kind.Plain = refl

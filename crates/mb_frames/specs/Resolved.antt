@@ -3,7 +3,6 @@ use Rattle.mb_world.specs.Image.{object_in}
 use Rattle.std.specs.Prelude.{List, None, Option, Some, map, option_map, ℕ}
 use Rattle.mb_model.specs.Nodes.Evaluation.{Context}
 use Rattle.mb_model.specs.Nodes.References.{Reference, ToName, ToPlace}
-use Rattle.mb_model.specs.Nodes.Scopes.{scope}
 use Rattle.mb_model.specs.Task.{Access, Add, Answer, Break, Call, Chain, Clear, Construct, Continue, DefineOwnProperty, Delete, DeleteAt, Empty, Enter, Evaluate, Flag, Get, GetAt, GetOwnProperty, GetPrototypeOf, Given, Has, HasProperty, IsExtensible, Keys, Loop, Method, Normal, Nothing, Outcome, OwnPropertyKeys, Pair, Perform, Place, PreventExtensions, Prop, Request, Return, Run, Set, SetAt, SetPrototypeOf, Size, Slot, Task, Throw, Values, Visit, Walk}
 use Rattle.mb_world.specs.Image.{Names, Resolve, desc_in, full_in, key_in, text_in}
 use Rattle.mb_world.specs.Key.{PropertyKey}

@@ -16,10 +16,6 @@ use Rattle.mb_frames.specs.declared.task.Answer.{Answer}
 use Rattle.mb_frames.specs.declared.task.Answer.TheVariants as a
 use Rattle.mb_frames.specs.declared.task.Outcome.{Outcome}
 use Rattle.mb_frames.specs.declared.task.Outcome.TheVariants as o
-use Rattle.mb_frames.specs.declared.expressions.Reference.{Reference}
-use Rattle.mb_frames.specs.declared.expressions.Reference.TheVariants as reference
-use Rattle.mb_frames.specs.declared.expressions.After.{After}
-use Rattle.mb_frames.specs.declared.expressions.After.TheVariants as after
 use Rattle.mb_frames.specs.declared.expressions.ExprFrame.{ExprFrame}
 use Rattle.mb_frames.specs.declared.expressions.ExprFrame.TheVariants as e
 use Rattle.mb_frames.specs.declared.statements.StmtFrame.{StmtFrame}
@@ -32,24 +28,13 @@ use Rattle.mb_frames.specs.declared.calls.CallFrame.{CallFrame}
 use Rattle.mb_frames.specs.declared.calls.CallFrame.TheVariants as c
 use Rattle.mb_frames.specs.declared.reflecting.ReflectFrame.{ReflectFrame}
 use Rattle.mb_frames.specs.declared.reflecting.ReflectFrame.TheVariants as r
-use Rattle.mb_frames.specs.declared.arrays.Member.{Member}
-use Rattle.mb_frames.specs.declared.arrays.Member.TheVariants as member
-use Rattle.mb_frames.specs.declared.arrays.Callback.{Callback}
-use Rattle.mb_frames.specs.declared.arrays.Callback.TheVariants as callback
-use Rattle.mb_frames.specs.declared.arrays.Turn.{Turn}
-use Rattle.mb_frames.specs.declared.arrays.Turn.TheVariants as turn
 use Rattle.mb_frames.specs.declared.arrays.ArrayFrame.{ArrayFrame}
 use Rattle.mb_frames.specs.declared.arrays.ArrayFrame.TheVariants as y
 use Rattle.mb_frames.specs.declared.proxies.ProxyFrame.{ProxyFrame}
 use Rattle.mb_frames.specs.declared.proxies.ProxyFrame.TheVariants as p
-use Rattle.mb_frames.specs.declared.collections.Visiting.{Visiting}
 use Rattle.mb_frames.specs.declared.collections.CollectFrame.{CollectFrame}
 use Rattle.mb_frames.specs.declared.collections.CollectFrame.TheVariants as l
-use Rattle.mb_frames.specs.declared.crossing.MembraneFrame.{MembraneFrame}
 use Rattle.mb_frames.specs.declared.crossing.MembraneFrame.TheVariants as m
-use Rattle.mb_frames.specs.declared.frame.Given.{Given}
-use Rattle.mb_frames.specs.declared.frame.Given.TheVariants as given
-use Rattle.mb_frames.specs.declared.frame.Entering.{Entering}
 use Rattle.mb_frames.specs.declared.frame.Frame.{Frame}
 use Rattle.mb_frames.specs.declared.frame.Frame.TheVariants as x
 use Rattle.mb_frames.specs.declared.proxies.Absent.{Absent}

@@ -22,7 +22,6 @@ use Rattle.mb_world.specs.Data.{Data, program_of}
 use Rattle.mb_world.specs.Form.{Form}
 use Rattle.mb_world.specs.Graph.{Graph, Entry, Item}
 use Rattle.mb_world.specs.Image.{Image, Names, entries_in, key_in, names_of, object_in, program_in}
-use Rattle.mb_frames.specs.declared.task.Task.{Task as FrameTask}
 use Rattle.mb_frames.specs.declared.task.Outcome.{Outcome as FrameOutcome}
 use Rattle.mb_frames.specs.declared.frame.Entering.{Entering}
 use Rattle.mb_frames.specs.declared.frame.Frame.{Frame}

@@ -26,7 +26,6 @@ use Rattle.mb_frames.specs.declared.machine.Halt.TheVariants.{Spent as SpentHalt
 use Rattle.mb_frames.specs.declared.machine.Lines.{Lines}
 use Rattle.mb_frames.specs.declared.machine.Waiting.{Waiting}
 use Rattle.mb_frames.specs.declared.machine.Machine.{Machine}
-use Rattle.mb_model.specs.Meaning.{row}
 
 -- ---- lines
 

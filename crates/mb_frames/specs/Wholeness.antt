@@ -3,7 +3,6 @@ use Rattle.std.specs.Prelude.{Err, Ok, Result}
 use Rattle.mb_base.specs.declared.value.ScopeId.{ScopeId}
 use Rattle.mb_frames.specs.Stepping.{Grew}
 use Rattle.mb_world.specs.Ids.{ObjIn, ScopeIn, ValueIn}
-use Rattle.std.specs.Prelude.{is_some}
 use Rattle.mb_frames.specs.Held.{HeldKeyIf}
 use Rattle.std.specs.List.{AllByRecursion, flat_map}
 use Rattle.std.specs.Prelude.{◌++◌, ◌<◌, All, List, None, Option, Some, [], false, length, map, slice_get, true, ℕ, ◌∷◌, ◌≡◌, ◌≢◌, ◌≤◌, ◌⊎◌}
@@ -31,9 +30,6 @@ use Rattle.mb_world.specs.Key.{Named, PropertyKey, SymbolKey, index_of_key, same
 use Rattle.mb_world.specs.Objects.{is_constructor, thing_at}
 use Rattle.mb_world.specs.Value.{Val}
 use Rattle.mb_base.specs.declared.value.Value.{Value}
-use Rattle.mb_frames.specs.declared.task.Outcome.{Outcome}
-use Rattle.mb_frames.specs.declared.frame.Frame.{Frame}
-use Rattle.mb_frames.specs.declared.frame.Frame.TheVariants as x
 use Rattle.mb_frames.specs.declared.machine.Waiting.{Waiting}
 use Rattle.mb_frames.specs.declared.machine.Machine.{Machine}
 use Rattle.mb_frames.specs.declared.machine.Halt.{Halt}

@@ -1,9 +1,7 @@
-// Machines by their moves, and an error that is thrown.
-ghost use Rattle.std.specs.Prelude.{◌≡◌};
+// Machines by their moves, and lists.
 
 use super::*;
-use mb_base::{NoMemory, NodeId, ObjId, ScopeId, Side, Value};
-use mb_world::{CellKind, ErrorKind, World};
+use mb_base::{NodeId, ObjId, ScopeId, Side, Value};
 use std::alloc::Global;
 use std::test::Fail;
 
@@ -96,25 +94,4 @@ fn moves_are_made(rt: HostRuntime) {
         left_by(alloc, Move::Entered(entry, evaluate(1))),
         (2, false)
     );
-}
-
-// A world in which the first side has the prototype of one kind of errors.
-fn with_prototype(alloc: Global) -> Result<World, NoMemory> {
-    let mut world = World::new(alloc)?;
-    world.make(Side(0), CellKind::BuiltIn(50), Value::Null, None)?;
-    Ok(world)
-}
-
-// Throws an error of the first side.
-fn throws(world: &mut World) -> bool {
-    let _texts = world.texts();
-    world.built_in(Side(0), 50).is_some() && fail(world, Side(0), ErrorKind::TypeError).is_ok()
-}
-
-#[test]
-fn an_error_is_a_new_object(rt: HostRuntime) -> Result<(), Fail> {
-    let mut world = with_prototype(rt.alloc())?;
-    assert!(rt; throws(&mut world));
-    assert_eq!(rt; world.objects(), 1);
-    Ok(())
 }

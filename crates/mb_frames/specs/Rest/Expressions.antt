@@ -17,7 +17,6 @@ use Rattle.mb_world.specs.Form.{Form}
 use Rattle.mb_world.specs.Image.{Names, Resolve, key_in, object_in, text_in}
 use Rattle.mb_world.specs.Key.{Named, PropertyKey}
 use Rattle.mb_world.specs.Value.{Val, to_boolean}
-use Rattle.mb_frames.specs.declared.task.Context.{Context as FrameContext}
 use Rattle.mb_frames.specs.declared.expressions.After.{After}
 use Rattle.mb_frames.specs.declared.expressions.After.TheVariants as after
 use Rattle.mb_frames.specs.declared.expressions.ExprFrame.{ExprFrame}
