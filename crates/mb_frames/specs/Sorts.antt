@@ -43,8 +43,8 @@ use Rattle.mb_world.specs.declared.entry.Op.{Op}
 use Rattle.mb_world.specs.declared.entry.Op.TheVariants as op
 use Rattle.mb_frames.specs.declared.machine.Waiting.{Waiting}
 
--- Each sort takes a throw too. Of values an object is one, and so is a prototype, which is null or an object; a completion
--- is any outcome of a statement, and an expression's is one.
+-- Each sort takes a throw too. Of values an object is one, and so is a prototype, which is null or an object; a
+-- completion is any outcome of a statement, and an expression's is one.
 pub data Sort : Type 0 where
   AnObject : Sort
   APrototype : Sort

@@ -1,5 +1,5 @@
--- What frames, moves and machines stand for, whatever tasks do. A machine still gives what its outcome gives, handed down
--- its stack: each frame goes on with the rest of its row.
+-- What frames, moves and machines stand for, whatever tasks do. A machine still gives what its outcome gives, handed
+-- down its stack: each frame goes on with the rest of its row.
 use Rattle.mb_world.specs.Value.{number_of}
 use Rattle.std.specs.Prelude.{option_map, Bool, List, None, Option, Some, [], false, true, ℕ, ◌∷◌, ◌≡◌}
 use Rattle.mb_base.specs.declared.value.Side.{Side}

@@ -1,4 +1,5 @@
--- What a step did: the part of a row that it took, the move that it made, what it charged, and what it added to the log.
+-- What a step did: the part of a row that it took, the move that it made, what it charged, and what it added to the
+-- log.
 use Rattle.mb_model.specs.Engine.{Pay}
 use Rattle.std.specs.Prelude.{is_some}
 use Rattle.mb_frames.specs.Standing.{Across}
@@ -105,8 +106,8 @@ abbrev pub MayPass : Bool → Row → Passage → Type 0
 MayPass begun p (Here home m) = MayMove begun p m
 MayPass begun p (Across y home m) = MayCross y.frame × MayMoveAcross p m
 
--- The part p of a row, from a world d with f units, went on by a passage, whatever tasks do; `begun` tells whether the row
--- was under way. What it charges was paid, and the world is d'.
+-- The part p of a row, from a world d with f units, went on by a passage, whatever tasks do; `begun` tells whether the
+-- row was under way. What it charges was paid, and the world is d'.
 pub record Went (begun : Bool) (d d' : Data) (f f' : ℕ) (l l' : Written) (p : Graph → Row) (m : Passage) : Type 0 where
   pub added : List Item
   pub logged : Added d d' l l' added

@@ -70,7 +70,8 @@ pub enum Turn {
     Slice { array: ObjId, from: u64 },
 }
 
-/// Array or a member of Array.prototype that waits (ECMA-262, 23.1). `place` is an index, `left` how many come after it.
+/// Array or a member of Array.prototype that waits (ECMA-262, 23.1). `place` is an index, `left` how many come after
+/// it.
 #[derive(Drop)]
 pub enum ArrayFrame {
     /// Array got its new target's `prototype`.

@@ -33,7 +33,8 @@ pub enum AfterDesc {
     Own { target: ObjId, key: Key },
 }
 
-/// A method of an object, a function or the reading of a list or of a descriptor, which waits (ECMA-262, 7.3, 10.1, 10.2, 6.2.6).
+/// A method of an object, a function or the reading of a list or of a descriptor, which waits (ECMA-262, 7.3, 10.1,
+/// 10.2, 6.2.6).
 #[derive(Drop)]
 pub enum CallFrame {
     /// A setter was called.

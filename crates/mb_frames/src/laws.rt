@@ -49,8 +49,8 @@ pub fn the_meaning_does_rows()
     ensures { ByRows (meaning row) }
 {}
 
-/// A step leaves what the machine still gives, where tasks do their rows: the outcome, the graph, the units and the log,
-/// of which the step itself added its part. So it does for each upper part of the stack.
+/// A step leaves what the machine still gives, where tasks do their rows: the outcome, the graph, the units and the
+/// log, of which the step itself added its part. So it does for each upper part of the stack.
 pub fn a_step_leaves_the_rest()
     ensures rest { (w : Tasks) → ByRows w → (m m' : Machine) (d d' : Data) (f f' : ℕ) (l l' : Written) →
         (q : Stepped m m' d d' f f' l l') (log : List Item) → Logged d log → HasItsIds d → MachineIn d m →
@@ -73,8 +73,8 @@ pub fn a_step_needs_only_its_own_row()
         MachineIn d m → RestBy w m' d' f' (log ++ q.step.added) ≡ RestBy w m d f log }
 {}
 
-/// Where a step can't pay, what the machine still gives is spent, with the world that the step leaves, the units that are
-/// left, and nothing added to the log.
+/// Where a step can't pay, what the machine still gives is spent, with the world that the step leaves, the units that
+/// are left, and nothing added to the log.
 pub fn a_step_that_cannot_pay_is_spent()
     ensures { (w : Tasks) → ByRows w → (m : Machine) (d d' : Data) (f f' : ℕ) (l l' : Written) →
         Stopped m d d' f f' l l' → (log : List Item) → Logged d log →
@@ -130,7 +130,8 @@ pub fn what_goes_on_is_formed()
 {}
 
 /// A contained machine stays contained, where its world does, homes keep what they own, and what goes on stands at the
-/// home of the top frame and holds only what its homes own. A step that stays at that home keeps all that it is to keep.
+/// home of the top frame and holds only what its homes own. A step that stays at that home keeps all that it is to
+/// keep.
 pub fn a_contained_machine_stays_contained()
     ensures machine { (m m' : Machine) (d d' : Data) (f f' : ℕ) (l l' : Written) → (q : Stepped m m' d d' f f' l l') →
         (log : List Item) → Logged d log → MachineIn d m → MachineContained d m → Contained d' → StaysOwn d d' →
@@ -148,8 +149,8 @@ pub fn a_world_is_kept_in_steps()
     ensures goes_on { (home : Side) (a b c : Data) → KeptWorld home a b → KeptWorld home b c → KeptWorld home a c }
 {}
 
-/// Each call that changes a world at one home keeps it: a text, an object that is made, a cell that changed, a scope, one
-/// that changed, and the jobs of a side.
+/// Each call that changes a world at one home keeps it: a text, an object that is made, a cell that changed, a scope,
+/// one that changed, and the jobs of a side.
 pub fn calls_keep_their_worlds()
     ensures text { (home : Side) (d : Data) (t : List ℕ) → HasItsIds d → Contained d → Paired d →
         KeptWorld home d (with_texts d (with_text d.texts t)) }
@@ -188,8 +189,8 @@ pub fn what_was_found_stays_found()
         IsStackSound d stack → IsStackSound d' stack }
 {}
 
-/// Parts of rows that charge nothing and change nothing: a row gives a value, throws one, or ends with a task; and such a
-/// part is a step, whether the row was under way or not.
+/// Parts of rows that charge nothing and change nothing: a row gives a value, throws one, or ends with a task; and such
+/// a part is a step, whether the row was under way or not.
 pub fn parts_that_change_nothing()
     ensures gives { (home : Side) (d : Data) (y : Value) → ValueIn d y →
         Sure home d (is_value (Resolve (names_of d) y) finished) (move.Done (o.Normal (a.Value y))) }
@@ -206,8 +207,8 @@ pub fn parts_that_change_nothing()
         Sure home d p m → Step home begun (Ok m) d d f f l l p }
 {}
 
-/// Parts of rows that charge, or that go on without ending: a charge is paid or can't be paid, a row starts anew, and an
-/// entry is put below a task that begins.
+/// Parts of rows that charge, or that go on without ending: a charge is paid or can't be paid, a row starts anew, and
+/// an entry is put below a task that begins.
 pub fn parts_that_charge()
     ensures paid { (home : Side) (begun : Bool) (r : Result Move Halt) (d d' : Data) (n f k f' : ℕ) (l l' : Written) →
         (p : Graph → Row) → n ≤ f → k ≡ f - n → PutsNone r → Step home begun r d d' k f' l l' p →

@@ -37,8 +37,8 @@ impl From<Spent> for Halt {
     }
 }
 
-/// The lines so far, of bytes without their line feeds: entries of the trace where `traced`, with the letters A to H for
-/// sides where `lettered`, and else L and R.
+/// The lines so far, of bytes without their line feeds: entries of the trace where `traced`, with the letters A to H
+/// for sides where `lettered`, and else L and R.
 #[derive(Drop)]
 pub struct Lines {
     pub traced: bool,

@@ -77,7 +77,8 @@ pub enum Task {
         given: Value,
         next: Value,
     },
-    /// A method of an object, as `viewer` sees it; `enters` tells whether it makes an entry where the object is foreign.
+    /// A method of an object, as `viewer` sees it; `enters` tells whether it makes an entry where the object is
+    /// foreign.
     Perform {
         method: Method,
         object: ObjId,
