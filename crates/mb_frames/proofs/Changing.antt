@@ -23,7 +23,7 @@ use Rattle.std.proofs.Common.{List, None, Option, Some, [], ap, arith, get_or, i
 use Rattle.std.proofs.lemmas.List.Elements.{All-append, All-head, All-nil, All-tail, All-weaker}
 use Rattle.std.proofs.lemmas.Option.{get_or_from_slice_get, slice_get-map, slice_get_cases}
 use Rattle.std.specs.List.{flat_map}
-use Rattle.std.specs.Prelude.{All, IfSome, slice_index_or}
+use Rattle.std.specs.Prelude.{All, IsSomeAnd, slice_index_or}
 
 -- ---- the objects that stand in what a world holds
 
@@ -88,8 +88,8 @@ there d o i = by (slice_get_cases d.cells o.0).1
 -- what a cell of the world passes, the cell in its place passes too
 pub carried : (d d' : Data) (P Q : Cell → Type 0)
     → ((id : ObjId) (c : Cell) → cell_at d id ≡ Some c → (e : Cell) × (cell_at d' id ≡ Some e) × KeepsCell d d' c e)
-    → ((c e : Cell) → KeepsCell d d' c e → P c → Q e) → (o : ObjId) → ObjIn d o → IfSome (cell_at d o) P
-    → IfSome (cell_at d' o) Q
+    → ((c e : Cell) → KeepsCell d d' c e → P c → Q e) → (o : ObjId) → ObjIn d o → IsSomeAnd (cell_at d o) P
+    → IsSomeAnd (cell_at d' o) Q
 carried d d' P Q k f o i h =
     let t : (c : Cell) × (cell_at d o ≡ Some c) = there d o i in
     let r : (e : Cell) × (cell_at d' o ≡ Some e) × KeepsCell d d' t.0 e = k o t.0 t.1 in

@@ -127,9 +127,9 @@ shown-at (kind.Shadow shape) place h = cc
 shown-at (kind.Collection coll) place h = refl
 
 -- a built-in of a side is its own
-pub built-in-own : (d : Data) (side : Side) (place : ℕ) (id : ObjId) → d.joined ≡ false
+pub built-in-own : (d : Data) (side : Side) (place : ℕ) (id : ObjId) → ObjIn d id → d.joined ≡ false
     → built_in_of d.joined d.cells side place ≡ Some id → IsOwn d side id
-built-in-own d side place id u h = by (slice_get_cases d.cells id.0).1
+built-in-own d side place id i u h = by (slice_get_cases d.cells id.0).1
   where
     there : (c : Cell) → cell_at d id ≡ Some c → IsOwn d side id
     there c g =
@@ -150,12 +150,12 @@ built-in-own d side place id u h = by (slice_get_cases d.cells id.0).1
     by : ((c : Cell) × (id.0 < length d.cells) × (slice_get d.cells id.0 ≡ Some c) × (get_or d.cells id.0 c ≡ c))
         ⊎ ((length d.cells ≤ id.0) × (slice_get d.cells id.0 ≡ None)) → IsOwn d side id
     by (inl p) = there p.0 p.2
-    by (inr p) = rw p.1 tt
+    by (inr p) = absurd (omega (arith, p.0, i))
 
 -- the world in which the error is made is kept
 pub error-kept : (home : Side) (d d' : Data) (id : ObjId) (place : ℕ) (error : ErrorKind) → HasItsIds d → ObjIn d id
     → built_in_of d.joined d.cells home place ≡ Some id → d' ≡ made d home (kind.Fault error) (v.Object id) None
     → d.joined ≡ false → Contained d → Paired d → KeptWorld home d d'
 error-kept home d d' id place error i h b e u c p = rw e (made-kept home d (kind.Fault error) (v.Object id) None i refl tt
-    h (All-nil (IsOwn d home)) (All-cons (IsOwn d home) id [] (built-in-own d home place id u b) (All-nil (IsOwn d home)))
+    h (All-nil (IsOwn d home)) (All-cons (IsOwn d home) id [] (built-in-own d home place id h u b) (All-nil (IsOwn d home)))
     c p)

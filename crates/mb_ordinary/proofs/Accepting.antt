@@ -1,24 +1,23 @@
 -- What a descriptor makes of a property is what it makes of what the property stands for.
-use Rattle.std.proofs.Common.{◌≡◌, List, [], ◌∷◌, ◌++◌, Bool, true, false, not, ◌&&◌, ◌||◌, Option, Some, None, is_some, unwrap_or, option_map, refl, sym, ap, ◌∙◌, arith, if◌then◌else◌}
+use Rattle.std.proofs.Common.{◌≡◌, List, [], ◌∷◌, ◌++◌, Bool, true, false, not, ◌&&◌, ◌||◌, Option, Some, None, is_some, unwrap_or, option_map, refl, ap, ◌∙◌, arith, if◌then◌else◌}
 use Rattle.std.specs.Prelude.{Contains}
 use Rattle.std.proofs.lemmas.List.Elements.{Contains-append_left, Contains-append_right}
-use Rattle.mb_base.specs.declared.value.ObjId.{ObjId}
 use Rattle.mb_base.specs.declared.value.Value.{Value}
 use Rattle.mb_base.specs.declared.value.Value.TheVariants as v
 use Rattle.mb_desc.specs.declared.descriptor.Desc.{Desc}
 use Rattle.mb_desc.specs.declared.descriptor.Full.{Full}
 use Rattle.mb_desc.specs.declared.descriptor.Full.TheVariants.{Datum, Accessor}
-use Rattle.mb_desc.specs.Descriptors.{is_accessor_descriptor, is_data_descriptor, has_no_fields, is_enumerable, is_configurable, Complete}
-use Rattle.mb_desc.specs.Validate.{same_flag, changes, refuses, refuses_fields, Applied, Validate}
+use Rattle.mb_desc.specs.Descriptors.{is_accessor_descriptor, is_data_descriptor, has_no_fields, is_configurable, Complete}
+use Rattle.mb_desc.specs.Validate.{changes, refuses, refuses_fields, Applied, Validate}
 use Rattle.mb_desc.specs.Values.{equal}
 use Rattle.mb_text.specs.Texts.{AreDistinct}
 use Rattle.mb_world.specs.Value.{Val, Undefined, same_value}
 use Rattle.mb_world.specs.Data.{Data}
 use Rattle.mb_world.specs.Ids.{Maybe, ValueIn, FullIn}
 use Rattle.mb_world.specs.Image.{Names, names_of, Resolve, full_in, desc_in}
-use Rattle.mb_world.specs.Formed.{option_values, full_values}
+use Rattle.mb_world.specs.Formed.{option_values}
 use Rattle.mb_ordinary.specs.Definitions.{TellsApart, desc_values, property_values, DescIn}
-use Rattle.mb_world.proofs.Values.{Apart, same-as}
+use Rattle.mb_world.proofs.Values.{same-as}
 
 -- ---- fields
 

@@ -1,7 +1,6 @@
 -- A cell and the object that it is, before a change and after.
-use Rattle.std.proofs.Common.{◌≡◌, ℕ, zero, suc, List, [], ◌∷◌, ◌++◌, Bool, true, false, not, Option, Some, None, refl, sym, ap, ◌∙◌, true≢false, slice_get, slice_set, map, option_map, if◌then◌else◌}
+use Rattle.std.proofs.Common.{◌≡◌, ℕ, zero, suc, List, [], ◌∷◌, ◌++◌, Bool, true, false, not, Option, Some, None, refl, sym, ap, ◌∙◌, true≢false, slice_get, slice_set, option_map}
 use Rattle.std.specs.Prelude.{All, IfSome}
-use Rattle.std.specs.Map.{lookup}
 use Rattle.std.proofs.lemmas.List.Elements.{All-weaker}
 use Rattle.std.proofs.lemmas.Map.Entries.{All-lookup}
 use Rattle.mb_base.specs.declared.value.ObjId.{ObjId}
@@ -17,17 +16,17 @@ use Rattle.mb_desc.specs.Values.{equal}
 use Rattle.mb_props.specs.Table.{same_key, found}
 use Rattle.mb_text.specs.Texts.{AreDistinct}
 use Rattle.mb_world.specs.declared.cell.Cell.{Cell}
-use Rattle.mb_world.specs.Value.{Val, Undefined, same_value}
+use Rattle.mb_world.specs.Value.{Undefined, same_value}
 use Rattle.mb_world.specs.Graph.{Thing}
 use Rattle.mb_world.specs.Ordinary.{Refused, Becomes, Leaves, Without, defined_as, validated, deleted}
-use Rattle.mb_world.specs.Data.{Data, Stand, stand, stands, cell_at, property_in, property_at, change_cell, put_in, remove_in}
+use Rattle.mb_world.specs.Data.{Data, stand, stands, cell_at, property_in, property_at, change_cell, put_in, remove_in}
 use Rattle.mb_world.specs.Ids.{Maybe, KeyIn, FullIn, PropertyIn, CellIn}
-use Rattle.mb_world.specs.Image.{Names, names_of, Resolve, full_in, desc_in, key_in, property_in as seen_property}
+use Rattle.mb_world.specs.Image.{Names, names_of, Resolve, full_in, desc_in, key_in}
 use Rattle.mb_world.proofs.Stands.{stands-set}
 use Rattle.mb_ordinary.specs.Objects.{IsOrdinary, object_of, object_at, property_of}
-use Rattle.mb_ordinary.specs.Definitions.{TellsApart, compared, desc_values, property_values, DescIn, accepted, defined_at, as_defined, is_loose, deleted_at, as_deleted}
+use Rattle.mb_ordinary.specs.Definitions.{TellsApart, compared, desc_values, property_values, DescIn, defined_at, as_defined, is_loose, deleted_at, as_deleted}
 use Rattle.mb_world.proofs.SameKeys.{find-found, put-insert, remove-without}
-use Rattle.mb_ordinary.proofs.Accepting.{validate-map, compares-there, accepted-in}
+use Rattle.mb_ordinary.proofs.Accepting.{validate-map, compares-there}
 
 -- the cell is there
 pub cell-there : (o : Option Cell) → IsOrdinary o → (c : Cell) × (o ≡ Some c)

@@ -1,19 +1,17 @@
 -- The object that a cell is, and the graph.
-use Rattle.std.proofs.Common.{◌≡◌, ℕ, Option, Some, None, true, false, refl, sym, ap, ◌∙◌, true≢false, slice_get, option_map}
+use Rattle.std.proofs.Common.{◌≡◌, Some, true, refl, sym, ap, ◌∙◌, true≢false, slice_get, option_map}
 use Rattle.std.proofs.lemmas.Option.{slice_get-map}
-use Rattle.mb_base.specs.declared.value.ObjId.{ObjId}
 use Rattle.mb_base.specs.declared.value.Side.{Side}
-use Rattle.mb_world.specs.declared.cell.Cell.{Cell}
 use Rattle.mb_world.specs.declared.cell.CellKind.{CellKind}
 use Rattle.mb_world.specs.declared.cell.CellKind.TheVariants.{Plain, Array, Function, BuiltIn, Fault, Proxy, Revoker, Membrane, Shadow, Collection}
 use Rattle.mb_world.specs.Graph.{Thing}
 use Rattle.mb_world.specs.Objects.{thing_at}
 use Rattle.mb_world.specs.Standard.{standard_at}
-use Rattle.mb_world.specs.Data.{Data, cell_at, kind_stand, is_counted, stand, stands, built_in_of, AtPlace}
-use Rattle.mb_world.specs.Image.{names_of, thing_in, object_in, stood, Image}
+use Rattle.mb_world.specs.Data.{cell_at, kind_stand, is_counted, stand, stands, AtPlace}
+use Rattle.mb_world.specs.Image.{names_of, thing_in, stood, Image}
 use Rattle.mb_world.specs.Formed.{as_standard}
 use Rattle.mb_world.proofs.AfterCalls.{thing-at}
-use Rattle.mb_ordinary.specs.Objects.{owner_by, object_of, object_at}
+use Rattle.mb_ordinary.specs.Objects.{owner_by, object_of}
 use Rattle.mb_ordinary.specs.Laws.{OfNumbered, OfBuiltIn}
 
 owner-numbered : (kind : CellKind) (home : Side) → is_counted (kind_stand kind) ≡ true → owner_by kind home ≡ Some home.0

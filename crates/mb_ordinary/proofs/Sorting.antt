@@ -1,5 +1,5 @@
 -- The array indices of a table in order are those that the definition puts in order.
-use Rattle.std.proofs.Common.{◌≡◌, ℕ, zero, suc, ◌+◌, ◌-◌, ◌^◌, ◌<◌, ◌≤◌, Bool, true, false, not, ◌&&◌, nat_eq, nat_lt, nat_le, List, [], ◌∷◌, length, get_or, map, Option, Some, None, if◌then◌else◌, refl, sym, ap, ◌∙◌, arith, true≢false, decimal}
+use Rattle.std.proofs.Common.{◌≡◌, ℕ, zero, suc, ◌-◌, ◌^◌, ◌<◌, ◌≤◌, Bool, true, false, not, ◌&&◌, nat_eq, nat_lt, List, [], ◌∷◌, map, Some, None, if◌then◌else◌, refl, sym, ap, ◌∙◌, arith, true≢false, decimal}
 use Rattle.std.specs.Prelude.{All}
 use Rattle.std.specs.List.{filter, IsDistinct, AllByRecursion}
 use Rattle.std.specs.List.Sorted.{IsNonDecreasingBy}
@@ -14,7 +14,7 @@ use Rattle.mb_text.proofs.Indices.{decimal-index_of, index_of-le}
 use Rattle.mb_props.specs.Table.{same_key}
 use Rattle.mb_props.specs.KeyOrder.{index_of, has_index, is_array_index, array_indices, IsInKeyOrder}
 use Rattle.mb_props.proofs.Order.{filter-same, filter-both, rising_is_one}
-use Rattle.mb_world.specs.Key.{PropertyKey, put_index, with_index, indices, keep_if}
+use Rattle.mb_world.specs.Key.{PropertyKey, put_index, with_index, indices}
 use Rattle.mb_world.specs.Data.{Data}
 use Rattle.mb_world.specs.Ids.{KeyIn}
 use Rattle.mb_world.specs.Image.{names_of, key_in}

@@ -1,5 +1,5 @@
 -- The walk over prototypes: by ids it is that by what ids stand for.
-use Rattle.std.proofs.Common.{◌≡◌, ℕ, zero, suc, ◌+◌, List, [], ◌∷◌, Bool, true, false, not, nat_eq, Option, Some, None, refl, sym, ap, ◌∙◌, subst, true≢false, arith, length, option_map, if◌then◌else◌}
+use Rattle.std.proofs.Common.{◌≡◌, ℕ, zero, suc, ◌+◌, [], ◌∷◌, Bool, true, false, not, nat_eq, Option, Some, None, refl, sym, ap, ◌∙◌, subst, true≢false, arith, if◌then◌else◌}
 use Rattle.std.specs.Prelude.{IfSome}
 use Rattle.std.proofs.lemmas.Bool.{eqb-true, eq-eqb}
 use Rattle.std.proofs.lemmas.Option.{slice_get_within, IfSome_then}
@@ -9,17 +9,16 @@ use Rattle.mb_base.specs.declared.value.Value.TheVariants as v
 use Rattle.mb_desc.specs.Values.{equal}
 use Rattle.mb_text.specs.Texts.{AreDistinct}
 use Rattle.mb_world.specs.declared.cell.Cell.{Cell}
-use Rattle.mb_world.specs.Value.{Val, same_value}
-use Rattle.mb_world.specs.Graph.{Thing}
+use Rattle.mb_world.specs.Value.{same_value}
 use Rattle.mb_world.specs.Ordinary.{prototype_answered}
 use Rattle.mb_world.specs.Data.{Data, cell_at}
 use Rattle.mb_world.specs.Ids.{ObjIn, ValueIn, CellIn}
 use Rattle.mb_world.specs.Image.{names_of, object_in, Resolve}
 use Rattle.mb_ordinary.specs.declared.answers.Visit.{Visit}
 use Rattle.mb_ordinary.specs.declared.answers.Visit.TheVariants.{Meets, Ends, Onward}
-use Rattle.mb_ordinary.specs.Objects.{IsOrdinary, object_of, object_at}
+use Rattle.mb_ordinary.specs.Objects.{IsOrdinary, object_at}
 use Rattle.mb_ordinary.specs.Definitions.{TellsApart}
-use Rattle.mb_ordinary.specs.Walks.{real, visit_of, visited, visited_as, TellsReal, Walked, Unpaid, Answered, after_visit, walked, Visits, Here, Later, answered_by, answered, or_walked, proto_set, proto_set_as, proto_of, TellsWalk}
+use Rattle.mb_ordinary.specs.Walks.{real, visit_of, visited, visited_as, TellsReal, Answered, after_visit, walked, Visits, Here, Later, answered, or_walked, proto_set, proto_set_as, proto_of, TellsWalk}
 use Rattle.mb_world.proofs.Values.{value-same, value-equal, same-as}
 use Rattle.mb_ordinary.proofs.Cells.{cell-there, at-object}
 

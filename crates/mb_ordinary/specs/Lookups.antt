@@ -1,5 +1,5 @@
 -- What is found at a key, and what a write does next.
-use Rattle.std.specs.Prelude.{List, map, Bool, true, false, Option, Some, None, option_map}
+use Rattle.std.specs.Prelude.{List, map, true, false, Option, Some, None, option_map}
 use Rattle.mb_base.specs.declared.value.Key.{Key}
 use Rattle.mb_base.specs.declared.value.Value.{Value}
 use Rattle.mb_base.specs.declared.value.Value.TheVariants as v

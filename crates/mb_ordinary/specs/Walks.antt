@@ -12,7 +12,7 @@ use Rattle.mb_world.specs.Graph.{Thing}
 use Rattle.mb_world.specs.Ordinary.{with_prototype, prototype_answered, walk_stops}
 use Rattle.mb_world.specs.Data.{Data, cell_at}
 use Rattle.mb_world.specs.Ids.{ValueIn}
-use Rattle.mb_world.specs.Image.{Names, names_of, object_in, Resolve}
+use Rattle.mb_world.specs.Image.{names_of, object_in, Resolve}
 use Rattle.mb_ordinary.specs.declared.answers.Visit.{Visit}
 use Rattle.mb_ordinary.specs.declared.answers.Visit.TheVariants.{Meets, Ends, Onward}
 use Rattle.mb_ordinary.specs.Objects.{owner_by, object_of, object_at}

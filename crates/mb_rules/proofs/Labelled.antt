@@ -1,5 +1,5 @@
 -- The rules for an object's label are those that apply to it.
-use Rattle.std.proofs.Common.{◌≡◌, ℕ, List, [], ◌∷◌, Bool, true, false, ◌&&◌, ◌||◌, nat_eq, cond, Option, Some, None, if◌then◌else◌, refl, sym, ap, ◌∙◌, true≢false, map, option_map}
+use Rattle.std.proofs.Common.{◌≡◌, ℕ, List, [], ◌∷◌, Bool, true, false, ◌&&◌, nat_eq, Option, Some, None, refl, sym, ap, ◌∙◌, true≢false, map, option_map}
 use Rattle.std.specs.Prelude.{All}
 use Rattle.std.specs.List.{find, list_any}
 use Rattle.std.proofs.lemmas.List.Elements.{All-head, All-tail}
@@ -24,7 +24,7 @@ use Rattle.mb_world.specs.Data.{Data, labelled}
 use Rattle.mb_world.specs.Ids.{Maybe, TextIn, KeyIn, RuleKindIn, RuleIn}
 use Rattle.mb_world.specs.Image.{Names, names_of, text_in, key_in, owner_by, object_of, rule_in, rule_kind_in}
 use Rattle.mb_world.proofs.Values.{same-as}
-use Rattle.mb_rules.specs.machine.Applying.{rules_if, rules_on, speaks, is_revoke, is_read_only, names_key, revokes, closes, is_of_key}
+use Rattle.mb_rules.specs.machine.Applying.{rules_if, rules_on, speaks, is_revoke, is_read_only, names_key, is_of_key}
 
 -- ---- what a rule's kind says
 

@@ -1,8 +1,6 @@
 -- What a shown property stands for.
-use Rattle.std.proofs.Common.{◌≡◌, Bool, Option, Some, None, refl, sym, ap, ◌∙◌, option_map}
-use Rattle.std.specs.Prelude.{All, IfSome}
-use Rattle.mb_base.specs.declared.value.Side.{Side}
-use Rattle.mb_base.specs.declared.value.Key.{Key}
+use Rattle.std.proofs.Common.{◌≡◌, Option, Some, None, refl, option_map}
+use Rattle.std.specs.Prelude.{IfSome}
 use Rattle.mb_base.specs.declared.value.Value.{Value}
 use Rattle.mb_desc.specs.declared.descriptor.Full.{Full}
 use Rattle.mb_desc.specs.declared.descriptor.Full.TheVariants.{Datum, Accessor}
@@ -12,7 +10,7 @@ use Rattle.mb_world.specs.View as seen
 use Rattle.mb_world.specs.Data.{Data}
 use Rattle.mb_world.specs.Ids.{FullIn, RuleKindIn}
 use Rattle.mb_world.specs.Image.{Names, rule_kind_in, full_in}
-use Rattle.mb_rules.specs.machine.Showing.{constant, shown_by}
+use Rattle.mb_rules.specs.machine.Showing.{shown_by}
 
 -- a shown property stands for what is shown of what the own one stands for
 pub shown-is : (n : Names) (rule : Option RuleKind) (own : Option (Full Value)) →

@@ -1,8 +1,7 @@
 -- What the calls say of a cell, said of the object that it is.
-use Rattle.std.proofs.Common.{◌≡◌, List, [], ◌∷◌, Bool, true, false, not, ◌&&◌, ◌||◌, nat_eq, cond, arith, Option, Some, None, refl, sym, ap, ◌∙◌, true≢false, subst, option_map, is_some, is_none, map, if◌then◌else◌}
+use Rattle.std.proofs.Common.{◌≡◌, List, [], ◌∷◌, Bool, true, false, nat_eq, cond, arith, Option, Some, None, refl, sym, ap, ◌∙◌, subst, option_map, is_some}
 use Rattle.std.specs.Prelude.{All, IfSome}
 use Rattle.std.specs.List.{find, list_any}
-use Rattle.std.specs.Map.{lookup}
 use Rattle.std.proofs.lemmas.List.Elements.{All-weaker, All-head, All-tail, All-filter}
 use Rattle.std.proofs.lemmas.Map.Entries.{All-lookup}
 use Rattle.mb_base.specs.declared.value.StrId.{StrId}
@@ -22,7 +21,7 @@ use Rattle.mb_world.specs.View as seen
 use Rattle.mb_world.specs.View.{shown_property, is_cut, foreign_owner, some_rule, is_revoke_rule, is_read_only_rule}
 use Rattle.mb_world.specs.Data.{Data, label_of, cell_at, property_in, property_at}
 use Rattle.mb_world.specs.Ids.{KeyIn, FullIn, PropertyIn, RuleKindIn, RuleIn, CellIn, HasItsIds}
-use Rattle.mb_world.specs.Image.{Names, names_of, key_in, full_in, rule_in, rule_kind_in, owner_by, object_of, object_at}
+use Rattle.mb_world.specs.Image.{Names, names_of, key_in, full_in, rule_kind_in, owner_by, object_of, object_at}
 use Rattle.mb_world.proofs.SameKeys.{find-found}
 use Rattle.mb_rules.specs.Seen.{graph_of}
 use Rattle.mb_rules.specs.machine.Applying.{rules_if, rules_on, is_of_key, revokes, closes, is_revoke, is_read_only}

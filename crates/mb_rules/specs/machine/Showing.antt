@@ -1,5 +1,5 @@
 -- An own property as the rule of its key shows it.
-use Rattle.std.specs.Prelude.{Bool, true, false, Option, Some, None}
+use Rattle.std.specs.Prelude.{false, Option, Some, None}
 use Rattle.mb_base.specs.declared.value.Value.{Value}
 use Rattle.mb_desc.specs.declared.descriptor.Full.{Full}
 use Rattle.mb_desc.specs.declared.descriptor.Full.TheVariants.{Datum}

@@ -1,6 +1,4 @@
-use Rattle.std.proofs.Common.{◌≡◌, true, false, not, sym, ap, ◌∙◌}
-use Rattle.mb_base.specs.declared.value.Value.{Value}
-use Rattle.mb_props.specs.Table.{found}
+use Rattle.std.proofs.Common.{◌≡◌, sym, ap, ◌∙◌}
 use Rattle.mb_world.specs.Data.{property_in, property_at}
 use Rattle.mb_ordinary.specs.Definitions.{is_loose}
 use Rattle.mb_ordinary.proofs.Cells.{deleted-fixed, deleted-loose, not-false, not-true}

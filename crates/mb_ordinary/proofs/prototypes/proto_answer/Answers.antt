@@ -1,4 +1,4 @@
-use Rattle.std.proofs.Common.{◌≡◌, Option, Some, None, true, false, Bool, refl, sym, ◌∙◌}
+use Rattle.std.proofs.Common.{◌≡◌, Some, None, true, false, sym, ◌∙◌}
 use Rattle.mb_world.specs.Data.{cell_at}
 use Rattle.mb_ordinary.specs.Walks.{answered}
 use Rattle.mb_ordinary.proofs.Visiting.{answered-meant, answered-same, answered-open, answered-closed}

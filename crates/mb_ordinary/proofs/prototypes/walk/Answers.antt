@@ -1,4 +1,4 @@
-use Rattle.std.proofs.Common.{◌≡◌, ◌∙◌, sym, true, false, refl}
+use Rattle.std.proofs.Common.{◌≡◌, ◌∙◌, sym, true}
 use Rattle.mb_ordinary.specs.Walks.{visited, walked, Answered}
 use Rattle.mb_ordinary.proofs.Visiting.{walked-on, walked-ends}
 use Rattle.mb_ordinary.proofs.prototypes.walk.Goals as goal
