@@ -1,5 +1,5 @@
 -- Rules by ids of a table stand for rules that a file can give.
-use Rattle.std.proofs.Common.{◌≡◌, ◌∙◌, ℕ, ◌<◌, ◌≤◌, List, [], ◌∷◌, length, Bool, true, false, Option, Some, None, map, refl, ap, sym, subst, if◌then◌else◌}
+use Rattle.std.proofs.Common.{◌≡◌, ℕ, ◌<◌, ◌≤◌, List, [], ◌∷◌, length, Bool, true, false, Option, Some, None, map, refl, sym, subst, if◌then◌else◌}
 use Rattle.std.specs.Prelude.{All, option_map, IfOk, Result, Ok, Err, slice_get}
 use Rattle.std.specs.Str.{IsUtf8, chars}
 use Rattle.std.specs.List.{AllByRecursion}
@@ -17,11 +17,11 @@ use Rattle.mb_world.specs.Image.{side_in}
 use Rattle.mb_world.specs.declared.rule.Rule.{Rule}
 use Rattle.mb_world.specs.declared.rule.RuleKind.{RuleKind}
 use Rattle.mb_world.specs.declared.rule.RuleKind.TheVariants as r
-use Rattle.mb_policy.specs.Accepted.{IsOfCharacters, MayBeConstant, MayBeKind, MayBeRule, IsSideNumber, AreRules}
+use Rattle.mb_policy.specs.Accepted.{MayBeConstant, MayBeKind, MayBeRule, IsSideNumber, AreRules}
 use Rattle.mb_policy.specs.Conflicts.{conflict_in}
 use Rattle.mb_policy.specs.Fields.{text_units}
 use Rattle.mb_policy.specs.Rows.{are_one_side}
-use Rattle.mb_policy.specs.Rules.{constant_by, kind_by, rule_by, IsText, IsConstant, IsKind, IsSide, AreSides, IsRule}
+use Rattle.mb_policy.specs.Rules.{constant_by, kind_by, rule_by, IsText, IsConstant, IsKind, IsSide, IsRule}
 use Rattle.mb_policy.specs.machine.Names.{rule_with_sides}
 
 -- the id of a text that was taken in

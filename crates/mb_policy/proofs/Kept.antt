@@ -1,5 +1,5 @@
 -- What a table of texts that gets further texts leaves of the ids of before.
-use Rattle.std.proofs.Common.{◌≡◌, ◌∙◌, ℕ, ◌<◌, ◌≤◌, subst, ◌++◌, List, [], ◌∷◌, length, Bool, true, false, Option, Some, None, option_map, map, refl, ap, ap₂, sym, arith, length-append, if◌then◌else◌}
+use Rattle.std.proofs.Common.{◌≡◌, ◌∙◌, ℕ, ◌<◌, ◌≤◌, subst, List, [], ◌∷◌, length, Bool, true, false, Option, Some, None, option_map, map, refl, ap, ap₂, sym, arith, length-append, if◌then◌else◌}
 use Rattle.std.proofs.lemmas.List.{get_or_append_left}
 use Rattle.std.specs.List.{AllByRecursion}
 use Rattle.mb_base.specs.declared.value.StrId.{StrId}

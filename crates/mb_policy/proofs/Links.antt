@@ -1,16 +1,14 @@
 -- Rules linked by the label and the key that they name.
-use Rattle.std.proofs.Common.{◌≡◌, ◌≢◌, ◌∙◌, ◌⊎◌, inl, inr, ℕ, zero, suc, ◌+◌, ◌<◌, ◌≤◌, List, [], ◌∷◌, ◌++◌, length, Bool, true, false, ◌&&◌, Option, Some, None, get_or, take, drop, cond, refl, sym, ap, ap₂, subst, arith, true≢false, nat_eq, length-append, if◌then◌else◌}
+use Rattle.std.proofs.Common.{◌≡◌, ◌≢◌, ◌∙◌, ◌⊎◌, inl, inr, ℕ, zero, suc, ◌+◌, ◌<◌, ◌≤◌, List, [], ◌∷◌, ◌++◌, length, Bool, true, false, ◌&&◌, Option, Some, None, get_or, take, cond, refl, sym, ap, ap₂, subst, arith, true≢false, nat_eq, length-append, if◌then◌else◌}
 use Rattle.std.specs.Prelude.{option_and_then, slice_get}
 use Rattle.std.specs.List.{position_from}
-use Rattle.std.specs.Map.{lookup}
 use Rattle.std.proofs.lemmas.Bool.{and_parts, cases_order, eqb-true, eq-eqb}
 use Rattle.std.proofs.lemmas.List.{get_or_append_left}
 use Rattle.std.proofs.Math.Seq.{get_or-append_seam}
-use Rattle.mb_base.specs.declared.value.StrId.{StrId}
 use Rattle.mb_world.specs.declared.rule.Rule.{Rule}
 use Rattle.mb_policy.specs.contracts.chain.NamedPartialEq.TheImpl
 use Rattle.mb_policy.specs.declared.chain.Named.{Named}
-use Rattle.mb_policy.specs.machine.Chains.{name_of, same_name, name_alike, meet_by, clash, name_at, Lacks, IsLast, IsLink, link_at, AreLinks, latest_of, AreLatest, Notes, clash_if, clash_at, first_clash_with, first_clash_at}
+use Rattle.mb_policy.specs.machine.Chains.{name_of, same_name, name_alike, meet_by, clash, name_at, IsLast, IsLink, link_at, AreLinks, latest_of, AreLatest, Notes, clash_if, clash_at, first_clash_with, first_clash_at}
 use Rattle.std.proofs.lemmas.Option.{slice_get-get_or}
 
 -- ---- names

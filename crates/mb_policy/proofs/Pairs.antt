@@ -1,10 +1,10 @@
 -- The first pair that conflicts, by ids and by texts.
-use Rattle.std.proofs.Common.{◌≡◌, ◌∙◌, ◌⊎◌, inl, inr, ℕ, zero, suc, ◌+◌, ◌<◌, ◌≤◌, List, [], ◌∷◌, ◌++◌, length, map, Bool, true, false, ◌&&◌, Option, Some, None, option_map, get_or, take, drop, cond, refl, sym, ap, ap₂, arith, true≢false, nat_eq, length-append, subst}
+use Rattle.std.proofs.Common.{◌≡◌, ◌∙◌, ◌⊎◌, inl, inr, ℕ, suc, ◌+◌, ◌<◌, ◌≤◌, List, [], ◌∷◌, ◌++◌, length, map, Bool, true, false, ◌&&◌, Option, Some, None, option_map, get_or, take, drop, cond, refl, sym, ap, ap₂, arith, true≢false, nat_eq, subst}
 use Rattle.std.specs.Prelude.{slice_get, All}
 use Rattle.std.specs.List.{position_from, AllByRecursion}
 use Rattle.std.proofs.lemmas.Bool.{and_parts, eqb-true, eq-eqb}
-use Rattle.std.proofs.lemmas.List.{length-map, map-append, map_push, drop_more, length-take-le}
-use Rattle.std.proofs.lemmas.List.Elements.{recursion_from_All, All-from_recursion}
+use Rattle.std.proofs.lemmas.List.{length-map, map_push, drop_more, length-take-le}
+use Rattle.std.proofs.lemmas.List.Elements.{recursion_from_All}
 use Rattle.std.proofs.lemmas.Option.{slice_get-get_or, slice_get_cases}
 use Rattle.std.proofs.Math.Seq.{take-suc}
 use Rattle.mb_base.specs.declared.value.StrId.{StrId}
@@ -16,7 +16,7 @@ use Rattle.mb_world.specs.declared.rule.RuleKind.{RuleKind}
 use Rattle.mb_world.specs.declared.rule.RuleKind.TheVariants as r
 use Rattle.mb_policy.specs.Conflicts.{key_named, same_named, conflicts, first_pair, conflict_in, or_later}
 use Rattle.mb_policy.specs.Rules.{kind_by, rule_by, IsText, IsKind, IsRule}
-use Rattle.mb_policy.specs.machine.Chains.{key_of, named_by, name_of, name_alike, meet_by, clash, clash_if, first_clash_with, first_clash_at}
+use Rattle.mb_policy.specs.machine.Chains.{key_of, named_by, name_alike, meet_by, clash, first_clash_with, first_clash_at}
 
 -- ---- texts and ids
 

@@ -1,5 +1,5 @@
 -- What a value of a file is, by what its accessors give.
-use Rattle.std.proofs.Common.{◌≡◌, ◌∙◌, ℕ, ◌<◌, ◌≤◌, List, length, Bool, true, false, Option, Some, None, option_map, refl, ap, sym, nat_le, le-leb, if◌then◌else◌}
+use Rattle.std.proofs.Common.{◌≡◌, ◌∙◌, ℕ, ◌<◌, ◌≤◌, List, length, Bool, true, false, Option, Some, None, option_map, refl, ap, sym, le-leb, if◌then◌else◌}
 use Rattle.std.proofs.lemmas.Bool.{lt-leb}
 use Rattle.mb_world.specs.Value.{Text}
 use Rattle.std.specs.Prelude.{option_and_then}

@@ -1,19 +1,11 @@
 -- The rule of a table, from what its fields give.
-use Rattle.std.proofs.Common.{◌≡◌, ◌∙◌, List, ℕ, Bool, true, false, Option, Some, None, option_map, ap, sym, if◌then◌else◌, codes}
+use Rattle.std.proofs.Common.{◌≡◌, ◌∙◌, List, ℕ, Bool, true, false, Option, Some, None, ap, sym, if◌then◌else◌, codes}
 use Rattle.std.specs.Prelude.{option_and_then}
-use Rattle.mb_base.specs.declared.value.StrId.{StrId}
-use Rattle.mb_base.specs.declared.value.Side.{Side}
 use Rattle.toml.specs.Data.{Members}
-use Rattle.mb_text.specs.Texts.{text_at, KeepsIds}
 use Rattle.mb_world.specs.Graph.{RuleKind as GraphKind}
-use Rattle.mb_world.specs.Image.{side_in}
-use Rattle.mb_world.specs.declared.rule.RuleKind.{RuleKind}
 use Rattle.mb_policy.specs.declared.kind.KindName.{KindName}
 use Rattle.mb_policy.specs.Fields.{all_fields, str_at, units_at, side_at}
 use Rattle.mb_policy.specs.Rows.{kind_named, is_field, kind_with, rule_with, rule_of, rule_of_kind}
-use Rattle.mb_policy.specs.Rules.{kind_by, rule_by, IsText}
-use Rattle.mb_policy.specs.machine.Names.{rule_with_sides}
-use Rattle.mb_policy.proofs.Kept.{rule-made, text-kept}
 
 module _ (sided : Bool) (row : Members) (name : KindName) (named : option_and_then kind_named (str_at (codes "kind") row) ≡ Some name) where
   -- a field too many

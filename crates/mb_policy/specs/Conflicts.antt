@@ -1,5 +1,5 @@
 -- Which rows of a policy conflict.
-use Rattle.std.specs.Prelude.{ℕ, ◌+◌, List, [], ◌∷◌, ◌++◌, length, Bool, true, false, not, ◌&&◌, nat_eq, Option, Some, None}
+use Rattle.std.specs.Prelude.{ℕ, ◌+◌, List, [], ◌∷◌, ◌++◌, length, Bool, false, not, ◌&&◌, nat_eq, Option, Some, None}
 use Rattle.std.specs.List.{list_any, position_from}
 use Rattle.mb_world.specs.Value.{same_units}
 use Rattle.mb_world.specs.Graph.{Rule, RuleKind, Hide, ReadOnly, Substitute, Revoke}

@@ -93,10 +93,7 @@ fn read_file(alloc: Global, file: &Table, texts: &mut Texts) -> Result<Vec<Rule>
         Err(fault) => return Err(fault),
     };
     match conflict(alloc, &rules, texts)? {
-        Some((first, second)) => Err(PolicyFault::Refused(PolicyKind::Conflict {
-            first: first as u32,
-            second: second as u32,
-        })),
+        Some((first, second)) => Err(PolicyFault::Refused(PolicyKind::Conflict { first, second })),
         None => Ok(rules),
     }
 }

@@ -33,9 +33,6 @@ use Rattle.mb_rules.proofs.Showing.{shown-is, shown-in, shown-own}
 pub at-object : (d : Data) (o : ObjId) (c : Cell) (P : Thing → Type 0) → cell_at d o ≡ Some c → P (object_of (names_of d) c) → IfSome (object_at d o) P
 at-object d o c P e h = rw e h
 
-some-same : {A : Type 0} (a b : A) → Some a ≡ Some b → a ≡ b
-some-same a b e = cc
-
 -- a rule that is found is one of the list
 find-in : (P : Rule → Type 0) (p : Rule → Bool) (rs : List Rule) → All P rs → IfSome (find p rs) P
 find-in P p [] h = tt

@@ -2,7 +2,6 @@
 // its condition is tested.
 ghost use Rattle.std.specs.Prelude.{◌<◌, All, IfOk, length};
 ghost use Rattle.mb_world.specs.Ids.{ObjIn, KeyIn, ValueIn, RuleIn};
-ghost use Rattle.mb_rules.specs.Seen.{ChangeIn};
 
 use crate::{Change, Ruling, admits, cut, listed, shown};
 use mb_base::{Key, ObjId, Side, StrId, Value};

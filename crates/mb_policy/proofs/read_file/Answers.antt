@@ -1,8 +1,8 @@
-use Rattle.std.proofs.Common.{◌≡◌, ◌∙◌, ap, sym, subst, Some, None, Err, true, false, codes, map}
+use Rattle.std.proofs.Common.{◌≡◌, ◌∙◌, ap, sym, subst, Some, None, Err, false, codes, map}
 use Rattle.toml.specs.Data.{get_member}
 use Rattle.toml.specs.View.{table_view, items_view}
 use Rattle.mb_policy.specs.Conflicts.{conflict_in}
-use Rattle.mb_policy.specs.Policy.{Reading, is_top_field, sided_of, rows_of, unless_conflict, without_conflict}
+use Rattle.mb_policy.specs.Policy.{Reading, is_top_field, rows_of, unless_conflict, without_conflict}
 use Rattle.mb_policy.specs.Rules.{rule_by}
 use Rattle.mb_policy.specs.machine.Answers.{AnswersRows}
 use Rattle.mb_policy.proofs.Accepted.{rules-accepted}

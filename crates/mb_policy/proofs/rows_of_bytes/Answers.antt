@@ -1,4 +1,4 @@
-use Rattle.std.proofs.Common.{◌≡◌, ◌∙◌, ap, sym, subst, true≢false, Option, Some}
+use Rattle.std.proofs.Common.{◌∙◌, ap, sym, subst, true≢false, Option}
 use Rattle.toml.specs.Data.{Members}
 use Rattle.toml.specs.View.{table_view}
 use Rattle.mb_policy.specs.Policy.{by_document}

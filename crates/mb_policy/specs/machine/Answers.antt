@@ -1,5 +1,5 @@
 -- What the reading of rows answers.
-use Rattle.std.specs.Prelude.{◌≡◌, ◌++◌, ℕ, List, map, Result, Ok, Err, ⊤, Vec}
+use Rattle.std.specs.Prelude.{◌≡◌, ◌++◌, ℕ, List, map, Result, Ok, Err, Vec}
 use Rattle.std.specs.declared.alloc.Global.{Global}
 use Rattle.mb_world.specs.declared.rule.Rule.{Rule}
 use Rattle.mb_policy.specs.declared.fault.PolicyFault.{PolicyFault}

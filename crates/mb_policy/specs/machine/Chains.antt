@@ -1,5 +1,5 @@
 -- How the first two conflicting rows are found: each row is linked to the last one before it of the same label and key.
-use Rattle.std.specs.Prelude.{◌≡◌, ◌≢◌, ℕ, ◌+◌, ◌<◌, ◌≤◌, List, [], ◌∷◌, length, Bool, true, false, ◌&&◌, nat_eq, Option, Some, None, option_map, option_and_then, slice_get, slice_index_or, take, if◌then◌else◌}
+use Rattle.std.specs.Prelude.{◌≡◌, ◌≢◌, ℕ, ◌+◌, ◌<◌, ◌≤◌, List, length, Bool, false, ◌&&◌, nat_eq, Option, Some, None, option_and_then, slice_get, slice_index_or, take, if◌then◌else◌}
 use Rattle.std.specs.List.{list_any, position_from}
 use Rattle.std.specs.Map.{lookup}
 use Rattle.mb_base.specs.declared.value.StrId.{StrId}

@@ -1,4 +1,4 @@
-use Rattle.std.proofs.Common.{◌≡◌, ◌∙◌, ◌<◌, ℕ, Option, Some, None, false, length, sym, subst, refl, arith}
+use Rattle.std.proofs.Common.{◌≡◌, ◌∙◌, ◌<◌, ℕ, Option, Some, false, length, sym, subst, refl, arith}
 use Rattle.mb_policy.specs.machine.Chains.{IsLink, name_at, clash_at}
 use Rattle.mb_policy.proofs.Links.{link-below, link-next, link-clear, link-end, clash-read}
 use Rattle.mb_policy.proofs.chain.has_clash.Goals as goal

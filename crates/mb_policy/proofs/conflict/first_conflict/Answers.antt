@@ -1,6 +1,6 @@
 use Rattle.std.proofs.Common.{◌≡◌, ◌∙◌, ◌+◌, ◌<◌, ◌++◌, ℕ, List, [], ◌∷◌, Option, None, length, take, drop, ap, sym, subst, refl, arith, length-append}
 use Rattle.mb_policy.specs.Conflicts.{or_later, first_pair}
-use Rattle.mb_policy.specs.machine.Chains.{clash, first_clash_at, name_at, AreLinks, Notes}
+use Rattle.mb_policy.specs.machine.Chains.{clash, first_clash_at, name_at, AreLinks}
 use Rattle.mb_policy.proofs.Links.{links-push, notes-at, notes-link, notes-latest}
 use Rattle.mb_policy.proofs.Pairs.{pair-at}
 use Rattle.mb_policy.proofs.conflict.first_conflict.Goals as goal

@@ -1,9 +1,8 @@
-use Rattle.std.proofs.Common.{◌≡◌, ◌∙◌, ap, sym, Some, None, codes, option_map}
-use Rattle.std.specs.Prelude.{option_and_then}
+use Rattle.std.proofs.Common.{◌≡◌, ◌∙◌, ap, Some, None, codes}
 use Rattle.toml.proofs.Views.{table_get}
-use Rattle.toml.specs.Data.{get_member, as_integer}
+use Rattle.toml.specs.Data.{get_member}
 use Rattle.toml.specs.View.{view, table_view}
-use Rattle.mb_policy.specs.Policy.{sided_by, rows_of}
+use Rattle.mb_policy.specs.Policy.{rows_of}
 use Rattle.mb_policy.proofs.document.rows.Goals as goal
 
 pub returns-in-None : goal.returns-in-None

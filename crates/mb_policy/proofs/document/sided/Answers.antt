@@ -3,7 +3,7 @@ use Rattle.std.specs.Prelude.{option_and_then}
 use Rattle.toml.proofs.Views.{table_get}
 use Rattle.toml.specs.Data.{get_member, as_integer}
 use Rattle.toml.specs.View.{view, table_view}
-use Rattle.mb_policy.specs.Policy.{sided_by, rows_of}
+use Rattle.mb_policy.specs.Policy.{sided_by}
 use Rattle.mb_policy.proofs.document.sided.Goals as goal
 
 pub returns-in-None : goal.returns-in-None

@@ -1,10 +1,9 @@
-use Rattle.std.proofs.Common.{◌≡◌, ◌∙◌, ap, sym, Some, None, IfOk, option_map}
+use Rattle.std.proofs.Common.{◌≡◌, ap, Some, None}
 use Rattle.std.specs.Prelude.{option_and_then}
 use Rattle.toml.proofs.Views.{table_get}
 use Rattle.toml.specs.Data.{get_member}
 use Rattle.toml.specs.View.{view, table_view}
 use Rattle.mb_policy.specs.Fields.{constant_of}
-use Rattle.mb_policy.specs.Rules.{constant_by}
 use Rattle.mb_policy.proofs.fields.constant_at.Goals as goal
 
 pub returns-in-Some-clause-value : goal.returns-in-Some-clause-value

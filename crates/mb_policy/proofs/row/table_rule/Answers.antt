@@ -1,4 +1,4 @@
-use Rattle.std.proofs.Common.{◌≡◌, ◌∙◌, ap, sym, subst, Some, None, option_map, true, false, codes}
+use Rattle.std.proofs.Common.{◌≡◌, ◌∙◌, ap, sym, subst, Some, option_map, codes}
 use Rattle.mb_text.specs.Texts.{text_at}
 use Rattle.mb_world.specs.Ids.{Maybe}
 use Rattle.mb_world.specs.Image.{side_in}
