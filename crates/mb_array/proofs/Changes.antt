@@ -1,14 +1,10 @@
 -- A cell's properties are changed, once and again.
-use Rattle.std.proofs.Common.{◌≡◌, ℕ, ◌<◌, List, length, slice_get, slice_set, get_or, Option, Some, None, refl, sym, ap, ◌∙◌, arith, length-set}
+use Rattle.std.proofs.Common.{◌≡◌, ◌<◌, length, slice_set, Some, sym, ap, ◌∙◌, arith, length-set}
 use Rattle.std.proofs.lemmas.List.{get_or-set_same, set-set, set-get_or}
 use Rattle.std.proofs.lemmas.Option.{slice_get_within, slice_get-get_or, get_or_from_slice_get}
 use Rattle.mb_base.specs.declared.value.ObjId.{ObjId}
-use Rattle.mb_base.specs.declared.value.Key.{Key}
-use Rattle.mb_base.specs.declared.value.Value.{Value}
-use Rattle.mb_desc.specs.declared.descriptor.Full.{Full}
-use Rattle.mb_props.specs.Table.{insert_entry, without}
 use Rattle.mb_world.specs.declared.cell.Cell.{Cell}
-use Rattle.mb_world.specs.Data.{Data, cell_at, set_cell, change_if, change_cell, put_in, remove_in}
+use Rattle.mb_world.specs.Data.{Data, cell_at, set_cell, change_if, change_cell}
 use Rattle.mb_array.specs.Define.{table_in, with_table}
 
 module _ (d : Data) (o : ObjId) (c : Cell) (there : cell_at d o ≡ Some c) where

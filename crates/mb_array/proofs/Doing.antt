@@ -1,5 +1,5 @@
 -- What the calls within do, from what they read and write.
-use Rattle.std.proofs.Common.{◌≡◌, ℕ, ℤ, pos, suc, ◌+◌, ◌-◌, ◌^◌, ◌≢◌, ◌<◌, ◌≤◌, max, reverse, List, [], ◌∷◌, Bool, true, false, not, ◌&&◌, ◌||◌, is_some, nat_le, nat_eq, Option, Some, None, option_map, if◌then◌else◌, refl, sym, ap, ◌∙◌, arith, true≢false, subst, slice_get}
+use Rattle.std.proofs.Common.{◌≡◌, ℕ, pos, ◌+◌, ◌-◌, ◌^◌, ◌≢◌, ◌<◌, ◌≤◌, max, reverse, List, [], ◌∷◌, Bool, true, false, not, ◌&&◌, ◌||◌, is_some, nat_le, nat_eq, Option, Some, None, option_map, if◌then◌else◌, refl, sym, ap, ◌∙◌, arith, true≢false, subst, slice_get}
 use Rattle.std.specs.Prelude.{All, Ok, Err}
 use Rattle.std.proofs.lemmas.Bool.{le-leb, lt-leb}
 use Rattle.std.proofs.lemmas.List.Elements.{All-cons, All-weaker}
@@ -16,23 +16,21 @@ use Rattle.mb_desc.specs.Validate.{Validate}
 use Rattle.mb_desc.specs.Values.{equal}
 use Rattle.mb_props.specs.Table.{same_key, found, insert_entry}
 use Rattle.mb_props.specs.KeyOrder.{index_of}
-use Rattle.std.specs.Map.{keys_of}
 use Rattle.mb_world.specs.declared.cell.Cell.{Cell}
 use Rattle.mb_world.specs.declared.cell.ErrorKind.{ErrorKind}
 use Rattle.mb_world.specs.declared.cell.ErrorKind.TheVariants.{TypeError, RangeError}
 use Rattle.mb_world.specs.Value.{Val, Whole, whole_of}
-use Rattle.mb_world.specs.Key.{PropertyKey, Named, same_key as graph_same_key}
+use Rattle.mb_world.specs.Key.{PropertyKey, same_key as graph_same_key}
 use Rattle.mb_world.specs.Graph.{Thing}
 use Rattle.mb_world.specs.Objects.{find_property, with_property}
 use Rattle.mb_world.specs.Ordinary.{Defined as Outcome, Refused, Becomes, Faulty, validated, defined_as, ordinary_defined}
-use Rattle.mb_world.specs.Arrays.{array_length, length_in, length_key, with_length, array_defined, array_defined_at, name_defined, element_defined, element_as, length_as, as_length, length_below, length_within, length_given, length_defined, without_writable, cut_to, Shrunk, shrunk}
-use Rattle.mb_world.specs.Formed.{full_values}
-use Rattle.mb_world.specs.Data.{Data, Stand, Counted, AtPlace, Before, Hidden, cell_at, property_in, property_at, change_cell, put_in, length_units, length_id}
-use Rattle.mb_world.specs.Ids.{KeyIn, PropertyIn, FullIn, Maybe}
-use Rattle.mb_world.specs.Image.{Names, names_of, stood, Resolve, key_in, full_in, desc_in, property_in as property_of_image}
+use Rattle.mb_world.specs.Arrays.{array_length, length_in, length_key, with_length, array_defined, array_defined_at, name_defined, element_defined, element_as, length_as, as_length, length_below, length_within, length_given, length_defined, without_writable, cut_to}
+use Rattle.mb_world.specs.Data.{Data, Stand, Counted, AtPlace, Before, Hidden, cell_at, property_in, property_at, change_cell, put_in, length_id}
+use Rattle.mb_world.specs.Ids.{KeyIn, PropertyIn, FullIn}
+use Rattle.mb_world.specs.Image.{Names, names_of, stood, Resolve, key_in, full_in, desc_in}
 use Rattle.mb_world.proofs.Worlds.{All-insert}
 use Rattle.mb_ordinary.specs.Objects.{object_of}
-use Rattle.mb_ordinary.specs.Definitions.{DescIn, TellsApart, compared, desc_values, property_values, accepted, accepted_by}
+use Rattle.mb_ordinary.specs.Definitions.{DescIn, accepted, accepted_by}
 use Rattle.mb_world.proofs.SameKeys.{find-found, put-insert, own-equal, own-same, same-key}
 use Rattle.mb_ordinary.proofs.Cells.{validated-is}
 use Rattle.mb_array.specs.declared.Defined.{Defined}
@@ -40,7 +38,7 @@ use Rattle.mb_array.specs.declared.Defined.TheVariants.{Answer, Range, Kind}
 use Rattle.mb_array.specs.Define.{on_object, told, left, changes, table_in, with_table, known_values, IsKnown, HoldsKnown}
 use Rattle.mb_array.specs.machine.Cutting.{index_in, is_from, AreIndicesFrom, Cut, cut_of, put_off}
 use Rattle.mb_array.specs.machine.Done.{CanDefine, HasCell, LengthIs, Done, asked_length, length_or_range}
-use Rattle.mb_array.proofs.Changes.{cell-changed, change-none, change-same, table-there, table-changed, only-table, change-again}
+use Rattle.mb_array.proofs.Changes.{cell-changed, change-none, table-there, only-table, change-again}
 use Rattle.mb_ordinary.proofs.Spelled.{key-index}
 use Rattle.mb_array.proofs.Shrinking.{shrunk_of, cut-is, no-name, found-cut, cut-whole, All-cut}
 use Rattle.mb_array.proofs.Known.{table-known, stored-known}

@@ -1,5 +1,5 @@
 -- The key of an array's `length`.
-use Rattle.std.proofs.Common.{◌≡◌, ℕ, ◌<◌, ◌-◌, ◌^◌, List, [], ◌∷◌, length, slice_get, Option, Some, None, Bool, true, false, if◌then◌else◌, nat_le, pos, subst, refl, sym, ap, ◌∙◌, arith}
+use Rattle.std.proofs.Common.{◌≡◌, ℕ, ◌-◌, ◌^◌, List, [], ◌∷◌, slice_get, Some, Bool, true, false, if◌then◌else◌, nat_le, pos, subst, refl, sym, ap, ◌∙◌, arith}
 use Rattle.std.specs.Prelude.{All}
 use Rattle.std.proofs.lemmas.List.Elements.{All-head, All-tail}
 use Rattle.std.proofs.lemmas.Bool.{le-leb}
@@ -13,7 +13,7 @@ use Rattle.mb_base.specs.declared.value.Value.TheVariants as v
 use Rattle.mb_desc.specs.declared.descriptor.Full.{Full}
 use Rattle.mb_desc.specs.declared.descriptor.Full.TheVariants.{Datum}
 use Rattle.mb_text.specs.Index.{index_of}
-use Rattle.mb_text.specs.Texts.{AreDistinct, has_text, text_at}
+use Rattle.mb_text.specs.Texts.{AreDistinct, has_text}
 use Rattle.mb_props.specs.Table.{same_key, found}
 use Rattle.mb_world.specs.Key.{Named}
 use Rattle.mb_world.specs.Data.{Data, property_in, length_units, length_id, length_key}

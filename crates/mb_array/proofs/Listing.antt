@@ -1,6 +1,6 @@
 -- The array indices that a shorter length leaves out are those of the definition, whether they are looked up one by one
 -- or taken from all keys in order.
-use Rattle.std.proofs.Common.{◌≡◌, ℕ, zero, suc, ◌+◌, ◌-◌, ◌^◌, ◌<◌, ◌≤◌, Bool, true, false, not, ◌&&◌, ◌||◌, nat_eq, nat_lt, nat_le, List, [], ◌∷◌, ◌++◌, map, Option, Some, None, is_some, slice_get, if◌then◌else◌, refl, sym, ap, ◌∙◌, arith, true≢false, subst, decimal, option_to_list}
+use Rattle.std.proofs.Common.{◌≡◌, ℕ, zero, suc, ◌+◌, ◌-◌, ◌^◌, ◌<◌, ◌≤◌, Bool, true, false, not, ◌&&◌, ◌||◌, nat_eq, nat_lt, nat_le, List, [], ◌∷◌, ◌++◌, map, Option, Some, None, slice_get, if◌then◌else◌, refl, sym, ap, ◌∙◌, arith, true≢false, subst, decimal, option_to_list}
 use Rattle.std.specs.Prelude.{All}
 use Rattle.std.specs.List.{filter, IsDistinct, AllByRecursion}
 use Rattle.std.specs.Map.{keys_of}
@@ -19,16 +19,14 @@ use Rattle.mb_text.specs.Texts.{AreDistinct, has_text, text_at}
 use Rattle.mb_text.proofs.Indices.{decimal-index_of}
 use Rattle.mb_text.proofs.WithText.{one_place}
 use Rattle.mb_props.specs.Table.{same_key, found, HasDistinctKeys}
-use Rattle.mb_props.specs.KeyOrder.{index_of, has_index, is_array_index, array_indices, IsInKeyOrder}
+use Rattle.mb_props.specs.KeyOrder.{index_of, has_index, is_array_index, IsInKeyOrder}
 use Rattle.mb_props.proofs.Order.{filter-same, filter-both, filter-none}
-use Rattle.mb_world.specs.Key.{indices}
 use Rattle.mb_world.specs.Arrays.{indices_from}
 use Rattle.mb_world.specs.Data.{Data}
 use Rattle.mb_world.specs.Formed.{IsBelow}
 use Rattle.mb_world.specs.Ids.{KeyIn, PropertyIn}
-use Rattle.mb_world.specs.Image.{names_of, key_in}
 use Rattle.mb_ordinary.proofs.Sorting.{in_order, in-order, are-indices, All-in_order, indexed, indices-are, Rises, Rises-in_order, at_index, at-index}
-use Rattle.mb_world.proofs.SameKeys.{own-equal, own-same}
+use Rattle.mb_world.proofs.SameKeys.{own-equal}
 use Rattle.mb_array.specs.machine.Cutting.{is_from, AreIndicesFrom}
 use Rattle.mb_array.proofs.Shrinking.{keys-in, indices-from}
 

@@ -1,5 +1,5 @@
 -- One element is taken out of a cell, the last key first.
-use Rattle.std.proofs.Common.{◌≡◌, ℕ, zero, suc, ◌+◌, ◌<◌, List, [], ◌∷◌, ◌++◌, length, reverse, slice_get, Option, Some, None, Bool, true, false, if◌then◌else◌, refl, sym, ap, ◌∙◌, arith}
+use Rattle.std.proofs.Common.{◌≡◌, ℕ, zero, suc, ◌<◌, List, [], ◌∷◌, ◌++◌, length, reverse, slice_get, Some, false, refl, sym, ap, ◌∙◌, arith}
 use Rattle.std.proofs.lemmas.List.{reverse-append}
 use Rattle.mb_base.specs.declared.value.Key.{Key}
 use Rattle.mb_base.specs.declared.value.ObjId.{ObjId}
@@ -7,12 +7,10 @@ use Rattle.mb_base.specs.declared.value.Value.{Value}
 use Rattle.mb_desc.specs.declared.descriptor.Full.{Full}
 use Rattle.mb_desc.specs.Descriptors.{is_fixed, property_is}
 use Rattle.mb_props.specs.Table.{found, without}
-use Rattle.mb_props.specs.KeyOrder.{index_of}
-use Rattle.mb_world.specs.declared.cell.Cell.{Cell}
 use Rattle.mb_world.specs.Data.{Data, cell_at, change_cell, remove_in}
 use Rattle.mb_world.specs.Ids.{ObjIn}
 use Rattle.mb_array.specs.Define.{table_in, with_table}
-use Rattle.mb_array.specs.machine.Cutting.{Cut, cut_of}
+use Rattle.mb_array.specs.machine.Cutting.{cut_of}
 use Rattle.mb_array.proofs.Changes.{change-none, change-again, cell-changed, table-there}
 
 there : {A : Type 0} (xs : List A) (i : ℕ) → i < length xs → (x : A) × (slice_get xs i ≡ Some x)

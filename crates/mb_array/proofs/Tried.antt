@@ -1,5 +1,5 @@
 -- What the tests find out is what the call asks.
-use Rattle.std.proofs.Common.{◌≡◌, ◌⊎◌, inl, inr, ℕ, zero, suc, pos, negsuc, ◌<◌, ◌^◌, nat_le, nat_eq, nat_lt, ◌||◌, ◌≢◌, subst, List, [], ◌∷◌, ◌++◌, length, Bool, true, false, not, ◌&&◌, Option, Some, None, refl, sym, ap, ◌∙◌, arith, true≢false, slice_get, slice_index_or, if◌then◌else◌, ◌-◌}
+use Rattle.std.proofs.Common.{◌≡◌, ℕ, zero, suc, pos, ◌<◌, ◌^◌, nat_le, nat_eq, nat_lt, ◌||◌, ◌≢◌, subst, List, [], ◌∷◌, ◌++◌, length, Bool, true, false, ◌&&◌, Option, Some, None, refl, sym, ap, ◌∙◌, arith, true≢false, slice_get, slice_index_or, if◌then◌else◌, ◌-◌}
 use Rattle.std.specs.Prelude.{All, Contains, is_ok}
 use Rattle.std.specs.List.{list_all}
 use Rattle.std.specs.Map.{keys_of}
@@ -18,12 +18,11 @@ use Rattle.mb_desc.specs.declared.descriptor.Full.TheVariants.{Datum, Accessor}
 use Rattle.mb_text.specs.Texts.{AreDistinct}
 use Rattle.mb_props.specs.Table.{found}
 use Rattle.mb_props.specs.KeyOrder.{IsInKeyOrder}
-use Rattle.mb_world.specs.Arrays.{as_length}
-use Rattle.mb_world.specs.Data.{Data, property_at, length_units, length_key}
+use Rattle.mb_world.specs.Data.{Data, property_at, length_units}
 use Rattle.mb_world.specs.Formed.{option_values, IsBelow}
 use Rattle.mb_ordinary.specs.Definitions.{TellsApart, compared, desc_values, property_values}
 use Rattle.mb_array.specs.Define.{HasItsLength}
-use Rattle.mb_array.specs.machine.Done.{asked_length, length_or_range, length_parts}
+use Rattle.mb_array.specs.machine.Done.{length_or_range, length_parts}
 use Rattle.mb_array.specs.machine.Tried.{is_plain, are_plain, is_length, is_below}
 use Rattle.mb_array.proofs.Lengths.{key-is}
 

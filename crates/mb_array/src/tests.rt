@@ -64,8 +64,8 @@ fn fixed(n: i64) -> Desc<Value> {
 fn array(rt: &impl Abort, w: &mut World) -> Result<ObjId, Fail> {
     let o = w.make(Side::LEFT, CellKind::Array, Value::Null, None)?;
     for (n, configurable) in [(0, true), (1, false), (2, true)] {
-        let element = w.of_whole(n)?;
-        let answer = defines(rt, w, o, element, open(n + 1, configurable))?;
+        let text = w.of_whole(n)?;
+        let answer = defines(rt, w, o, text, open(n + 1, configurable))?;
         assert_eq!(rt; answer, Defined::Answer(true));
     }
     Ok(o)
@@ -134,7 +134,7 @@ fn has_all(rt: &impl Abort, w: &mut World, o: ObjId, rows: &[(i64, bool)]) -> Re
     Ok(())
 }
 
-fn row(desc: Desc<Value>, answer: Defined, length: i64, writable: bool, third: bool) -> Row {
+fn make_row(desc: Desc<Value>, answer: Defined, length: i64, writable: bool, third: bool) -> Row {
     Row {
         desc,
         answer,
@@ -152,13 +152,13 @@ fn shorter_rows() -> [Row; 7] {
     };
     let (yes, no) = (Defined::Answer(true), Defined::Answer(false));
     [
-        row(value(-1), Defined::Range, 3, true, true),
-        row(value(0x1_0000_0000), Defined::Range, 3, true, true),
-        row(truth, Defined::Kind, 3, true, true),
-        row(value(0xFFFF_FFFF), yes, 0xFFFF_FFFF, true, true),
-        row(fixed(0), no, 2, false, false),
-        row(value(0), no, 2, false, false),
-        row(fixed(2), yes, 2, false, false),
+        make_row(value(-1), Defined::Range, 3, true, true),
+        make_row(value(0x1_0000_0000), Defined::Range, 3, true, true),
+        make_row(truth, Defined::Kind, 3, true, true),
+        make_row(value(0xFFFF_FFFF), yes, 0xFFFF_FFFF, true, true),
+        make_row(fixed(0), no, 2, false, false),
+        make_row(value(0), no, 2, false, false),
+        make_row(fixed(2), yes, 2, false, false),
     ]
 }
 
@@ -166,11 +166,11 @@ fn shorter_rows() -> [Row; 7] {
 fn rows_one_by_one() -> [Row; 5] {
     let (yes, no) = (Defined::Answer(true), Defined::Answer(false));
     [
-        row(value(3), yes, 3, true, true),
-        row(value(2), yes, 2, true, false),
-        row(value(0), no, 2, true, false),
-        row(fixed(2), yes, 2, false, false),
-        row(value(3), no, 2, false, false),
+        make_row(value(3), yes, 3, true, true),
+        make_row(value(2), yes, 2, true, false),
+        make_row(value(0), no, 2, true, false),
+        make_row(fixed(2), yes, 2, false, false),
+        make_row(value(3), no, 2, false, false),
     ]
 }
 
@@ -198,7 +198,7 @@ struct Element {
     writable: bool,
 }
 
-fn element(rt: &impl Abort, w: &mut World, o: ObjId, row: &Element) -> Result<(), Fail> {
+fn try_element(rt: &impl Abort, w: &mut World, o: ObjId, row: &Element) -> Result<(), Fail> {
     let text = w.of_whole(row.index)?;
     let answer = defines(rt, w, o, text, row.desc)?;
     assert_eq!(rt; answer, Defined::Answer(row.answer));
@@ -207,7 +207,7 @@ fn element(rt: &impl Abort, w: &mut World, o: ObjId, row: &Element) -> Result<()
 
 fn elements(rt: &impl Abort, w: &mut World, o: ObjId, rows: &[Element]) -> Result<(), Fail> {
     for row in rows {
-        element(rt, w, o, row)?;
+        try_element(rt, w, o, row)?;
     }
     Ok(())
 }
@@ -242,7 +242,7 @@ fn an_element_is_below_the_length(rt: HostRuntime) -> Result<(), Fail> {
     let o = array(&rt, &mut w)?;
     elements(&rt, &mut w, o, &high_elements())?;
     // the elements go, and what is no index stays
-    let shorter = row(fixed(2), Defined::Answer(true), 2, false, false);
+    let shorter = make_row(fixed(2), Defined::Answer(true), 2, false, false);
     tried(&rt, &mut w, o, &shorter)?;
     has_all(&rt, &mut w, o, &[(0xFFFF_FFFE, false), (0xFFFF_FFFF, true)])?;
     elements(&rt, &mut w, o, &elements_about_two())

@@ -1,5 +1,5 @@
 -- The deletion of elements past a shorter length, over the keys of a world.
-use Rattle.std.specs.Prelude.{◌≡◌, ◌+◌, ◌-◌, ◌^◌, ◌&&◌, not, nat_eq, nat_le, ℕ, List, [], ◌∷◌, map, All, Bool, true, false, Option, Some, None, if◌then◌else◌}
+use Rattle.std.specs.Prelude.{◌≡◌, ◌+◌, ◌&&◌, nat_le, ℕ, List, [], ◌∷◌, map, All, Bool, true, false, Option, Some, None, if◌then◌else◌}
 use Rattle.std.specs.Map.{keys_of}
 use Rattle.mb_base.specs.declared.value.Key.{Key}
 use Rattle.mb_base.specs.declared.value.Value.{Value}

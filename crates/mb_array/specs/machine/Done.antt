@@ -1,5 +1,5 @@
 -- What each of the calls within does, by the pure definition that it carries out.
-use Rattle.std.specs.Prelude.{◌≡◌, ◌<◌, ◌^◌, ℕ, List, Bool, false, Option, Some, None, All, option_map, unwrap_or, pos, MatchResult, Ok, Err}
+use Rattle.std.specs.Prelude.{◌≡◌, ◌<◌, ◌^◌, ℕ, Bool, false, Option, Some, None, All, option_map, unwrap_or, pos, MatchResult, Ok, Err}
 use Rattle.std.specs.declared.result.Result.{Result}
 use Rattle.mb_base.specs.declared.NoMemory.{NoMemory}
 use Rattle.mb_base.specs.declared.value.Key.{Key}

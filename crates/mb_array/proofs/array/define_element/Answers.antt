@@ -1,4 +1,4 @@
-use Rattle.std.proofs.Common.{◌≡◌, pos, false, sym, ap, ◌∙◌, true≢false}
+use Rattle.std.proofs.Common.{pos, false, sym, ap, ◌∙◌, true≢false}
 use Rattle.mb_base.specs.declared.value.Value.TheVariants.{Whole}
 use Rattle.mb_desc.specs.declared.descriptor.Full.TheVariants.{Datum}
 use Rattle.mb_world.specs.Data.{change_cell, put_in}

@@ -1,6 +1,6 @@
 use Rattle.std.proofs.Common.{sym, ◌∙◌, subst}
 use Rattle.mb_array.specs.machine.Done.{Ends}
-use Rattle.mb_array.proofs.Doing.{given-none, given-length, given-refused}
+use Rattle.mb_array.proofs.Doing.{given-length, given-refused}
 use Rattle.mb_array.proofs.array.define_length.Goals as goal
 
 pub returns-in-Err : goal.returns-in-Err

@@ -1,7 +1,6 @@
-use Rattle.std.proofs.Common.{◌≡◌, pos, false, not, ◌&&◌, nat_eq, reverse, sym, ap, ◌∙◌, subst, true≢false}
+use Rattle.std.proofs.Common.{◌≡◌, pos, false, nat_eq, reverse, sym, ap, ◌∙◌, subst, true≢false}
 use Rattle.mb_base.specs.declared.value.Value.TheVariants.{Whole}
 use Rattle.mb_desc.specs.declared.descriptor.Full.TheVariants.{Datum}
-use Rattle.mb_desc.specs.Descriptors.{denies, is_writable}
 use Rattle.mb_world.specs.Data.{cell_at, change_cell, put_in}
 use Rattle.mb_ordinary.specs.Definitions.{accepted}
 use Rattle.mb_array.specs.declared.Defined.TheVariants.{Answer}

@@ -1,4 +1,4 @@
-use Rattle.std.proofs.Common.{◌≡◌, false, Some, is_some, slice_get, sym, ap, ◌∙◌, subst}
+use Rattle.std.proofs.Common.{is_some, slice_get, sym, ap, ◌∙◌, subst}
 use Rattle.mb_text.specs.Texts.{has_text}
 use Rattle.mb_props.specs.Table.{found}
 use Rattle.mb_world.specs.Data.{length_units, length_key}

@@ -1,7 +1,8 @@
 use Rattle.std.proofs.Common.{sym, ap, ◌∙◌, subst, slice_get}
+use Rattle.std.specs.List.{list_all}
 use Rattle.mb_array.specs.Define.{HasItsLength, table_in}
 use Rattle.mb_array.specs.machine.Done.{length_parts}
-use Rattle.mb_array.specs.machine.Tried.{is_length}
+use Rattle.mb_array.specs.machine.Tried.{is_below, is_length}
 use Rattle.mb_array.proofs.Tried.{has-length}
 use Rattle.mb_array.proofs.tests.asked.has_length.Goals as goal
 
@@ -16,4 +17,4 @@ returns r c =
     (ap is_length (sym there) ∙ c.fits_length.ensures)
     (ap (λ p. p.0) c.parts.ensures ∙ ap (λ p. (length_parts p).0) there)
     c.in_ok-keys.ensures.order
-    c.all_below.ensures)
+    (ap (list_all (is_below c.parts.result.0)) (sym c.deref.ensures.value) ∙ c.all_below.ensures))
