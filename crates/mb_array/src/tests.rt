@@ -60,7 +60,7 @@ fn fixed(n: i64) -> Desc<Value> {
     }
 }
 
-// The array 1, 2, 3, whose index 1 isn't configurable.
+// An array of 1, 2 and 3. The one in the middle is fixed.
 fn array(rt: &impl Abort, w: &mut World) -> Result<ObjId, Fail> {
     let o = w.make(Side::LEFT, CellKind::Array, Value::Null, None)?;
     for (n, configurable) in [(0, true), (1, false), (2, true)] {

@@ -225,7 +225,7 @@ StandsAt side (Across y home m) = y.home ≡ side
 
 -- ---- what a step of a home keeps in a world that isn't joined, but for a step of the membrane
 
--- the kind is of the same variant, and a script-made Proxy keeps its target or loses it
+-- the kind is as it was, but that a script-made Proxy may have lost its target and its handler
 abbrev pub KeepsKind : CellKind → CellKind → Type 0
 KeepsKind (kind.Proxy (Some target) handler shape) later =
     (later ≡ kind.Proxy (Some target) handler shape) ⊎ (later ≡ kind.Proxy None None shape)

@@ -1,8 +1,14 @@
-// Machines by their moves, and lists.
+// Machines by their moves, and an error that is thrown.
+ghost use Rattle.std.specs.Prelude.{◌<◌};
+ghost use Rattle.mb_world.specs.Ids.{HasItsIds};
+ghost use Rattle.mb_world.specs.declared.cell.ErrorKind.TheVariants.{TypeError};
+ghost use Rattle.mb_frames.specs.Failing.{HasErrorPrototype};
 
 use super::*;
-use mb_base::{NodeId, ObjId, ScopeId, Side, Value};
+use mb_base::{NoMemory, NodeId, ObjId, ScopeId, Side, Value};
+use mb_world::{CellKind, ErrorKind, World};
 use std::alloc::Global;
+use std::process::Abort;
 use std::test::Fail;
 
 const AT: Context = Context {
@@ -94,4 +100,38 @@ fn moves_are_made(rt: HostRuntime) {
         left_by(alloc, Move::Entered(entry, evaluate(1))),
         (2, false)
     );
+}
+
+// A world in which the first side has the prototype of one kind of errors.
+fn with_prototype(alloc: Global) -> Result<World, NoMemory> {
+    let mut world = World::new(alloc)?;
+    world.make(Side::LEFT, CellKind::BuiltIn(50), Value::Null, None)?;
+    Ok(world)
+}
+
+fn has_prototype(rt: &impl Abort, world: &World, home: Side)
+    ensures home { home.0 < 8 }
+    ensures prototype { HasErrorPrototype world.now home TypeError }
+    ensures ids { HasItsIds world.now }
+{
+    let _texts = world.texts();
+    assert!(rt; home.0 < 8);
+    assert!(rt; world.built_in(home, 50).is_some());
+}
+
+fn throws(world: &mut World, home: Side) -> bool
+    requires home { home.0 < 8 }
+    requires prototype { HasErrorPrototype world.old home TypeError }
+    requires ids { HasItsIds world.old }
+{
+    fail(world, home, ErrorKind::TypeError).is_ok()
+}
+
+#[test]
+fn an_error_is_a_new_object(rt: HostRuntime) -> Result<(), Fail> {
+    let mut world = with_prototype(rt.alloc())?;
+    has_prototype(&rt, &world, Side::LEFT);
+    assert!(rt; throws(&mut world, Side::LEFT));
+    assert_eq!(rt; world.objects(), 1);
+    Ok(())
 }

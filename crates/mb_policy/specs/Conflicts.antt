@@ -23,12 +23,12 @@ all_sides = 0 ∷ 1 ∷ 2 ∷ 3 ∷ 4 ∷ 5 ∷ 6 ∷ 7 ∷ []
 abbrev pub means_pair : Option ℕ → Option ℕ → ℕ → ℕ → Bool
 means_pair owner viewer o v = not (nat_eq o v) && (means_side owner o && means_side viewer v)
 
--- there is an owner and another side as viewer that both rules mean
+-- both rules mean one owner, as one other side sees its objects
 abbrev pub meet : Rule → Rule → Bool
 meet a b = list_any (λ o. list_any (λ v.
     means_pair a.owner a.viewer o v && means_pair b.owner b.viewer o v) all_sides) all_sides
 
--- two rules name one key of one label, and there is an owner and another side as viewer that both mean
+-- two rules name one key of one label, and meet
 abbrev pub conflicts : Rule → Rule → Bool
 conflicts a b = (same_units a.label b.label && same_named (key_named a.kind) (key_named b.kind)) && meet a b
 

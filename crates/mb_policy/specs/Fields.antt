@@ -30,7 +30,7 @@ units_at field row = option_map text_units (str_at field row)
 abbrev pub text_constant : List ℕ → Option Val
 text_constant units = if nat_le (length units) 1048576 then Some (Text units) else None
 
--- a constant is a truth value, a text of at most 2^20 units, or a whole number in range
+-- a constant: true or false, a text that isn't longer than 2^20 units, a whole number in range
 abbrev pub constant_of : Data → Option Val
 constant_of (boolean b) = Some (Truth b)
 constant_of (string s) = text_constant (text_units s)

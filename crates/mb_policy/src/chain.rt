@@ -77,7 +77,7 @@ pub(crate) fn clash(a: &Rule, b: &Rule) -> bool
     }
 }
 
-// Whether there is an owner and another side as viewer that both rules mean.
+// Whether both rules mean one owner, as one other side sees its objects.
 fn meet(a: &Rule, b: &Rule) -> bool
     ensures { result ≡ meet_by a.now b.now }
 {
