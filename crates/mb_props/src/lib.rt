@@ -6,8 +6,10 @@ ghost use Rattle.std.specs.Map.{keys_of};
 ghost use Rattle.mb_props.specs.Table.{HasDistinctKeys, found, insert_entry, without};
 ghost use Rattle.mb_props.specs.KeyOrder.{index_of, is_array_index, is_name, is_symbol, array_indices, names, symbols, IsInKeyOrder, KeyOrderIsOne};
 
-use indexmap::IndexMap;
+mod pairs;
+
 use mb_base::{Key, NoMemory};
+use pairs::Pairs;
 use std::alloc::{AllocError, Global};
 use std::marker::Model;
 
@@ -15,19 +17,20 @@ use std::marker::Model;
 /// earliest made at the head.
 #[derive(Drop)]
 pub struct Props<P: Copy> {
-    pairs: IndexMap<Key, P>,
+    pairs: Pairs<P>,
 }
 
 impl<P: Copy> Model for Props<P> {
     ghost use Rattle.std.specs.Prelude.{List};
     ghost use Rattle.mb_base.specs.declared.value.Key.{Key};
     ghost use Rattle.mb_props.specs.Table.{HasDistinctKeys};
+    ghost use Rattle.mb_props.specs.machine.Pairs.{pairs_of};
 
     ghost Value = { List (Key × P) };
 
-    ghost view = { λ table. table.pairs.entries };
+    ghost view = { λ table. pairs_of table.pairs };
 
-    ghost invariant = { λ table. HasDistinctKeys table.pairs.entries };
+    ghost invariant = { λ table. HasDistinctKeys (pairs_of table.pairs) };
 }
 
 impl<P: Copy> Props<P> {
@@ -36,7 +39,7 @@ impl<P: Copy> Props<P> {
         ensures { result ≡ [] }
     {
         Props {
-            pairs: IndexMap::new(alloc),
+            pairs: Pairs::new(alloc),
         }
     }
 
@@ -45,10 +48,7 @@ impl<P: Copy> Props<P> {
         ensures value { result ≡ found self.now key }
         ensures distinct { HasDistinctKeys self.now }
     {
-        match self.pairs.get(&key) {
-            Some(property) => Some(*property),
-            None => None,
-        }
+        self.pairs.get(key)
     }
 
     /// Sets the key's property, in constant time on average. Only for a new key, which goes to the
@@ -59,10 +59,7 @@ impl<P: Copy> Props<P> {
         ensures there { found self.old key ≢ None → IsOk result }
         ensures distinct { HasDistinctKeys self.new }
     {
-        match self.pairs.insert(key, property) {
-            Ok(_) => Ok(()),
-            Err(_) => Err(NoMemory),
-        }
+        self.pairs.put(key, property)
     }
 
     /// Takes the key's pair out, if there is one, and tells whether there was. The pairs behind it move
@@ -72,7 +69,7 @@ impl<P: Copy> Props<P> {
         ensures was { result ≡ is_some (found self.old key) }
         ensures distinct { HasDistinctKeys self.new }
     {
-        self.pairs.shift_remove(&key).is_some()
+        self.pairs.remove(key)
     }
 
     /// The pair that has this many before it, if the table is that long; in constant time.
@@ -80,10 +77,7 @@ impl<P: Copy> Props<P> {
         ensures value { result ≡ slice_get self.now place }
         ensures distinct { HasDistinctKeys self.now }
     {
-        match self.pairs.get_index(place as usize) {
-            Some((key, property)) => Some((*key, *property)),
-            None => None,
-        }
+        self.pairs.at(place as usize)
     }
 
     /// The keys as OrdinaryOwnPropertyKeys lists them (ECMA-262, 10.1.11.1): ascending array indices,
@@ -92,10 +86,8 @@ impl<P: Copy> Props<P> {
         ensures order { IfOk result (λ keys. IsInKeyOrder (keys_of self.now) keys.items) }
         ensures distinct { HasDistinctKeys self.now }
     {
-        match ordered_keys(*self.pairs.allocator(), &self.pairs) {
-            Ok(keys) => Ok(keys),
-            Err(_) => Err(NoMemory),
-        }
+        let made = self.pairs.keys()?;
+        Ok(ordered_keys(*made.allocator(), &made)?)
     }
 }
 
@@ -128,43 +120,40 @@ fn is_name(key: Key) -> bool
     !is_symbol(key) && !is_array_index(key)
 }
 
-fn indices_of<P: Copy>(alloc: Global, pairs: &IndexMap<Key, P>) -> Result<Vec<Key>, AllocError>
-    ensures { IfOk result (λ keys. keys.items ≡ array_indices (keys_of pairs.now.entries)) }
+fn indices_of(alloc: Global, keys: &[Key]) -> Result<Vec<Key>, AllocError>
+    ensures { IfOk result (λ indices. indices.items ≡ array_indices keys.now) }
 {
-    pairs
-        .keys()
+    keys.iter()
         .copied()
         .filter(|key| is_array_index(*key))
         .collect(alloc)
 }
 
-fn names_of<P: Copy>(alloc: Global, pairs: &IndexMap<Key, P>) -> Result<Vec<Key>, AllocError>
-    ensures { IfOk result (λ keys. keys.items ≡ names (keys_of pairs.now.entries)) }
+fn names_of(alloc: Global, keys: &[Key]) -> Result<Vec<Key>, AllocError>
+    ensures { IfOk result (λ texts. texts.items ≡ names keys.now) }
 {
-    pairs
-        .keys()
+    keys.iter()
         .copied()
         .filter(|key| is_name(*key))
         .collect(alloc)
 }
 
-fn symbols_of<P: Copy>(alloc: Global, pairs: &IndexMap<Key, P>) -> Result<Vec<Key>, AllocError>
-    ensures { IfOk result (λ keys. keys.items ≡ symbols (keys_of pairs.now.entries)) }
+fn symbols_of(alloc: Global, keys: &[Key]) -> Result<Vec<Key>, AllocError>
+    ensures { IfOk result (λ own. own.items ≡ symbols keys.now) }
 {
-    pairs
-        .keys()
+    keys.iter()
         .copied()
         .filter(|key| is_symbol(*key))
         .collect(alloc)
 }
 
 // The array indices sorted, then the names, then the symbols.
-fn ordered_keys<P: Copy>(alloc: Global, pairs: &IndexMap<Key, P>) -> Result<Vec<Key>, AllocError>
-    ensures { IfOk result (λ keys. IsInKeyOrder (keys_of pairs.now.entries) keys.items) }
+fn ordered_keys(alloc: Global, made: &[Key]) -> Result<Vec<Key>, AllocError>
+    ensures { IfOk result (λ keys. IsInKeyOrder made.now keys.items) }
 {
-    let mut keys = indices_of(alloc, pairs)?;
-    let names = names_of(alloc, pairs)?;
-    let symbols = symbols_of(alloc, pairs)?;
+    let mut keys = indices_of(alloc, made)?;
+    let names = names_of(alloc, made)?;
+    let symbols = symbols_of(alloc, made)?;
     keys.sort_by_key(|key| index_of(*key))?;
     keys.extend_from_slice(&names)?;
     keys.extend_from_slice(&symbols)?;

@@ -138,6 +138,43 @@ fn mixed_keys_with_removals_between(rt: HostRuntime) -> Result<(), Fail> {
     Ok(())
 }
 
+// Eight pairs are a list and the ninth makes it a map: neither shows.
+#[test]
+fn ninth_key_after_a_removal(rt: HostRuntime) -> Result<(), Fail> {
+    let keys = [
+        name(0),
+        index(1, 6),
+        name(2),
+        symbol(3),
+        index(4, 2),
+        name(5),
+        name(6),
+        name(7),
+    ];
+    let mut table = table_of(&rt, &keys)?;
+    assert_eq!(rt; table.remove(name(2)), true);
+    table.put(name(8), Value::Null)?;
+    table.put(index(1, 6), Value::Undefined)?;
+    assert_eq!(rt; table.at(7), Some((name(8), Value::Null)));
+    table.put(symbol(9), Value::Null)?;
+    assert_eq!(rt; table.at(8), Some((symbol(9), Value::Null)));
+    assert_eq!(rt; table.get(index(1, 6)), Some(Value::Undefined));
+    assert_eq!(rt; table.get(name(7)), Some(Value::Whole(7)));
+    assert_eq!(rt; table.remove(name(0)), true);
+    let ordered = [
+        index(4, 2),
+        index(1, 6),
+        name(5),
+        name(6),
+        name(7),
+        name(8),
+        symbol(3),
+        symbol(9),
+    ];
+    assert_eq!(rt; table.keys_in_order()?.as_slice(), ordered.as_slice());
+    Ok(())
+}
+
 #[test]
 fn empty_table(rt: HostRuntime) -> Result<(), Fail> {
     let mut table: Props<u8> = Props::new(rt.alloc());
