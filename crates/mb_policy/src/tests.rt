@@ -146,6 +146,28 @@ fn there_are_at_most_a_thousand_rows(rt: HostRuntime) -> Result<(), Fail> {
     Ok(())
 }
 
+// A file whose one row substitutes a text of so many units.
+fn long_text(alloc: Global, units: usize) -> Result<String, AllocError> {
+    let mut file = String::from_str(
+        alloc,
+        "version = 1\nrule = [{ label = \"A\", kind = \"substitute\", key = \"k\", value = \"",
+    )?;
+    for _ in 0..units {
+        file.push_str("a")?;
+    }
+    file.push_str("\" }]")?;
+    Ok(file)
+}
+
+#[test]
+fn a_text_has_at_most_a_million_units(rt: HostRuntime) -> Result<(), Fail> {
+    for (units, expected) in [(1_048_576, None), (1_048_577, field(1))] {
+        let file = long_text(rt.alloc(), units)?;
+        assert_eq!(rt; refusal(rt.alloc(), &file), expected);
+    }
+    Ok(())
+}
+
 #[test]
 fn rules_come_with_their_texts(rt: HostRuntime) -> Result<(), Fail> {
     let mut texts = Texts::new(rt.alloc());
