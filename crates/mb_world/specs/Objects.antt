@@ -69,8 +69,11 @@ is_proxy_kind _ = false
 abbrev pub is_proxy : Graph → Val → Bool
 is_proxy g v = thing_is is_proxy_kind (thing_at g v)
 
+-- a script-made Proxy has the shape of its target
 abbrev pub shape_of_kind : Kind → Shape
 shape_of_kind Array = ArrayShape
+shape_of_kind (Proxy t h s) = s
+shape_of_kind (Gone s) = s
 shape_of_kind k = if kind_constructs k then Constructs else if kind_calls k then Calls else PlainShape
 
 abbrev pub shape_of_thing : Option Thing → Shape

@@ -1,0 +1,11 @@
+pub mod Lists
+pub mod Forming
+pub mod Adding
+pub mod NewProxies
+pub mod Worlds
+pub mod Counterparts
+pub mod Calls
+pub mod Fulls
+pub mod Keeping
+pub mod Objects
+pub mod SmallWorlds

@@ -1,0 +1,4 @@
+pub mod Crossing
+pub mod Crossed
+pub mod Laws
+pub mod machine
