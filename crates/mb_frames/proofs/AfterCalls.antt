@@ -36,13 +36,13 @@ use Rattle.std.specs.Prelude.{All, slice_index_or}
 pub same-side : (side : Side) → same_side side side ≡ true
 same-side side = grind (arith, nat_tests)
 
-at-first : {A : Type 0} (xs : List A) (x y : A) (n : ℕ) → slice_get xs n ≡ Some y
+pub at-first : {A : Type 0} (xs : List A) (x y : A) (n : ℕ) → slice_get xs n ≡ Some y
     → slice_get (xs ++ (x ∷ [])) n ≡ Some y
 at-first [] x y n e = cc
 at-first (z ∷ xs) x y zero e = e
 at-first (z ∷ xs) x y (suc n) e = at-first xs x y n e
 
-at-last : {A : Type 0} (xs : List A) (x y : A) (n : ℕ) → slice_get (xs ++ (x ∷ [])) n ≡ Some y
+pub at-last : {A : Type 0} (xs : List A) (x y : A) (n : ℕ) → slice_get (xs ++ (x ∷ [])) n ≡ Some y
     → (slice_get xs n ≡ Some y) ⊎ (y ≡ x)
 at-last [] x y zero e = inr cc
 at-last [] x y (suc n) e = cc
@@ -55,7 +55,7 @@ filter-last p n [] x h = rw (h n) refl
 filter-last p n (y ∷ ys) x h =
     ap (λ zs. cond (p (n, y)) ((n, y) ∷ zs) zs) (filter-last p (suc n) ys x h)
 
-queue-all : (P : Job → Type 0) (qs : List (List Job)) → All (All P) qs → (n : ℕ) → All P (slice_index_or qs n [])
+pub queue-all : (P : Job → Type 0) (qs : List (List Job)) → All (All P) qs → (n : ℕ) → All P (slice_index_or qs n [])
 queue-all P [] h n = All-nil P
 queue-all P (q ∷ qs) h zero = All-head (All P) q qs h
 queue-all P (q ∷ qs) h (suc n) = queue-all P qs (All-tail (All P) q qs h) n
@@ -153,7 +153,7 @@ module _ (d d' : Data)
 
 -- ---- an object more
 
-no-part : (k : CellKind) → is_counted (kind_stand k) ≡ true → is_of_membrane k ≡ false
+pub no-part : (k : CellKind) → is_counted (kind_stand k) ≡ true → is_of_membrane k ≡ false
 no-part kind.Plain h = refl
 no-part kind.Array h = refl
 no-part (kind.Function code) h = refl
@@ -177,7 +177,7 @@ no-two d home (kind.Membrane behind shadow) h = absurd (true≢false (sym h))
 no-two d home (kind.Shadow shape) h = absurd (true≢false (sym h))
 no-two d home (kind.Collection coll) h = (tt, tt)
 
-no-built-in : (k : CellKind) (place : ℕ) → is_counted (kind_stand k) ≡ true → k ≡ kind.BuiltIn place → ⊥
+pub no-built-in : (k : CellKind) (place : ℕ) → is_counted (kind_stand k) ≡ true → k ≡ kind.BuiltIn place → ⊥
 no-built-in k place h e = true≢false (sym h ∙ ap (λ y. is_counted (kind_stand y)) e)
 
 first-none : (b : Bool) (texts : List (List ℕ)) → flat_map (λ p. in_full p.1) (first_props b texts) ≡ []
@@ -186,7 +186,7 @@ first-none false texts = refl
 
 module _ (home : Side) (d : Data) (k : CellKind) (proto : Value) (label : Option StrId) (i : HasItsIds d)
     (counted : is_counted (kind_stand k) ≡ true) where
-  kept-cells : (id : ObjId) (c : Cell) → cell_at d id ≡ Some c
+  pub kept-cells : (id : ObjId) (c : Cell) → cell_at d id ≡ Some c
       → (e : Cell) × (cell_at (made d home k proto label) id ≡ Some e)
       × KeepsCell d (made d home k proto label) c e
   kept-cells id c e = (
@@ -196,7 +196,7 @@ module _ (home : Side) (d : Data) (k : CellKind) (proto : Value) (label : Option
         (All-at (CellIn d) d.cells id.0 c e i.cells_in),
   )
 
-  kept-parts : (id : ObjId) (c : Cell) → is_of_membrane c.kind ≡ true
+  pub kept-parts : (id : ObjId) (c : Cell) → is_of_membrane c.kind ≡ true
       → (cell_at d id ≡ Some c → cell_at (made d home k proto label) id ≡ Some c)
       × (cell_at (made d home k proto label) id ≡ Some c → cell_at d id ≡ Some c)
   kept-parts id c m = (

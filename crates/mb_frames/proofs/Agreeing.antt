@@ -270,8 +270,8 @@ module _ (d : Data) (n n' : Names) (g : Agrees d n n') where
   expr-agrees s fs (e.IndexKey at base after) h w = rw (g.value at.this h.1.0, g.value base h.1.1.0) refl
   expr-agrees s fs e.Got h w = refl
   expr-agrees s fs (e.AssignValue at to) h w = rw (g.value at.this h.1.0, reference-agrees to h.1.1) refl
-  expr-agrees s fs (e.CompoundOld at sign value to) h w = rw (g.value at.this h.1.0, reference-agrees to h.1.1.1) refl
-  expr-agrees s fs (e.CompoundValue at sign old to) h w = rw (g.value at.this h.1.0, g.value old h.1.1.0, reference-agrees to h.1.1.1) refl
+  expr-agrees s fs (e.CompoundOld at sign value to) h w = rw (g.value at.this h.1.0, reference-agrees to h.1.1.1.1) refl
+  expr-agrees s fs (e.CompoundValue at sign old to) h w = rw (g.value at.this h.1.0, g.value old h.1.1.0, reference-agrees to h.1.1.1.1) refl
   expr-agrees s fs (e.UpdateOld at plus prefix to) h w = rw (g.value at.this h.1.0, reference-agrees to h.1.1) refl
   expr-agrees s fs (e.Put gives) h w = rw (g.value gives h.0) refl
   expr-agrees s fs (e.Callee at node this) h w = rw (g.value at.this h.1.0, g.value this h.1.1.1.0) refl

@@ -77,7 +77,7 @@ module _ (d : Data) where
 
 -- ---- cells that are there
 
-there : (d : Data) (o : ObjId) → ObjIn d o → (c : Cell) × (cell_at d o ≡ Some c)
+pub there : (d : Data) (o : ObjId) → ObjIn d o → (c : Cell) × (cell_at d o ≡ Some c)
 there d o i = by (slice_get_cases d.cells o.0).1
   where
     by : ((c : Cell) × (o.0 < length d.cells) × (slice_get d.cells o.0 ≡ Some c) × (get_or d.cells o.0 c ≡ c))

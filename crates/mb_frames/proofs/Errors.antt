@@ -46,7 +46,7 @@ at-place n Counted h = absurd (true≢false (sym h))
 at-place n (Before behind) h = absurd (true≢false (sym h))
 at-place n Hidden h = absurd (true≢false (sym h))
 
-mapped-some : (x : Option ℕ) (id : ObjId) → option_map obj_id x ≡ Some id → x ≡ Some id.0
+pub mapped-some : (x : Option ℕ) (id : ObjId) → option_map obj_id x ≡ Some id → x ≡ Some id.0
 mapped-some None id h = cc
 mapped-some (Some n) id h = ap (λ (r : Option ObjId). option_map (λ (i : ObjId). i.0) r) h
 
@@ -59,16 +59,22 @@ error-is ErrorKindReference = refl
 stood-at : (n : Names) (i place : ℕ) (s : Option Stand) → s ≡ Some (AtPlace place) → stood n i s ≡ BuiltIn place
 stood-at n i place s e = ap (stood n i) e
 
-built-in-at : (d : Data) (side : Side) (place : ℕ) (id : ObjId) (c : Cell)
-    → built_in_of d.joined d.cells side place ≡ Some id → cell_at d id ≡ Some c
-    → object_in (names_of d) id ≡ BuiltIn place
-built-in-at d side place id c h g =
+pub stands-there : (d : Data) (side : Side) (place : ℕ) (id : ObjId) (c : Cell)
+    → built_in_of d.joined d.cells side place ≡ Some id → cell_at d id ≡ Some c → stand c ≡ AtPlace place
+stands-there d side place id c h g =
     let e : position (serves d.joined side place) d.cells ≡ Some id.0
     = mapped-some (position (serves d.joined side place) d.cells) id h in
     let p : serves d.joined side place (get_or d.cells id.0 c) ≡ true
     = (position-Some (serves d.joined side place) d.cells id.0 c e).1 in
     let q : get_or d.cells id.0 c ≡ c = get_or_from_slice_get d.cells id.0 c c g in
-    let s : stand c ≡ AtPlace place = at-place place (stand c) (and-second (d.joined || same_side side c.home) (stands_at place (stand c)) (rw (← q) p)) in
+    at-place place (stand c)
+    (and-second (d.joined || same_side side c.home) (stands_at place (stand c)) (rw (← q) p))
+
+built-in-at : (d : Data) (side : Side) (place : ℕ) (id : ObjId) (c : Cell)
+    → built_in_of d.joined d.cells side place ≡ Some id → cell_at d id ≡ Some c
+    → object_in (names_of d) id ≡ BuiltIn place
+built-in-at d side place id c h g =
+    let s : stand c ≡ AtPlace place = stands-there d side place id c h g in
     stood-at (names_of d) id.0 place (slice_get (stands d.cells) id.0)
     (slice_get-map stand d.cells id.0 ∙ ap (option_map stand) g ∙ ap Some s)
 
@@ -114,7 +120,7 @@ and-first : (a b : Bool) → a && b ≡ true → a ≡ true
 and-first true b h = refl
 and-first false b h = absurd (true≢false (sym h))
 
-shown-at : (k : CellKind) (place : ℕ) → kind_stand k ≡ AtPlace place → is_shadow k ≡ false
+pub shown-at : (k : CellKind) (place : ℕ) → kind_stand k ≡ AtPlace place → is_shadow k ≡ false
 shown-at kind.Plain place h = refl
 shown-at kind.Array place h = refl
 shown-at (kind.Function code) place h = refl

@@ -5,9 +5,9 @@ use Rattle.mb_base.specs.declared.value.Side.{Side}
 use Rattle.mb_desc.specs.declared.descriptor.Desc.{Desc}
 use Rattle.mb_desc.specs.declared.descriptor.Full.{Full}
 use Rattle.mb_frames.proofs.Stack.{forms-grow}
-use Rattle.mb_frames.specs.Held.{AreIn, DescIn, Held, HeldBegan, HeldCallable, HeldCollection, HeldConstructor, HeldDesc, HeldEntered, HeldFields, HeldFull, HeldIn, HeldKey, HeldKeyIf, HeldKeys, HeldNode, HeldNodeIf, HeldObject, HeldPlace, HeldPrototype, HeldReal, HeldScope, HeldText, HeldTextIf, HeldValue, HeldValues}
+use Rattle.mb_frames.specs.Held.{AreIn, DescIn, Held, HeldArray, HeldBegan, HeldCallable, HeldCollection, HeldConstructor, HeldDesc, HeldEntered, HeldFields, HeldFull, HeldIn, HeldKey, HeldKeyIf, HeldKeys, HeldNode, HeldNodeIf, HeldObject, HeldPlace, HeldPlain, HeldPrototype, HeldReal, HeldScope, HeldSign, HeldText, HeldTextIf, HeldValue, HeldValues}
 use Rattle.mb_frames.specs.Holding.{StackIn, frame_held}
-use Rattle.mb_frames.specs.Kinds.{is_node}
+use Rattle.mb_frames.specs.Kinds.{is_evaluated}
 use Rattle.mb_frames.specs.Standing.{forms_at}
 use Rattle.mb_frames.specs.Wholeness.{AreFields, AreSound, IsProperty, IsSound, IsStackSound, StaysFound}
 use Rattle.mb_world.specs.Data.{Data}
@@ -19,7 +19,7 @@ use Rattle.mb_base.specs.declared.value.Value.TheVariants as v
 use Rattle.mb_frames.specs.declared.machine.Waiting.{Waiting}
 
 module _ (d d' : Data) (i : HasItsIds d) (s : StaysFound d d') where
-  getter-stays : (y : Value) → ValueIn d y → IsCallableOrNot d y → IsCallableOrNot d' y
+  pub getter-stays : (y : Value) → ValueIn d y → IsCallableOrNot d y → IsCallableOrNot d' y
   getter-stays v.Undefined h k = k
   getter-stays v.Null h k = s.callable v.Null h k
   getter-stays (v.Bool b) h k = s.callable (v.Bool b) h k
@@ -54,7 +54,7 @@ module _ (d d' : Data) (i : HasItsIds d) (s : StaysFound d d') where
       → test (slice_get (forms_at d' home) n) ≡ true
   node-stays home test n k = ap (λ fs. test (slice_get fs n)) (forms-grow d d' i s.grew home) ∙ k
 
-  sound-stays : (home : Side) (y : Held) → HeldIn d y → IsSound d home y → IsSound d' home y
+  pub sound-stays : (home : Side) (y : Held) → HeldIn d y → IsSound d home y → IsSound d' home y
   sound-stays home (HeldValue y) h k = k
   sound-stays home (HeldValues ys) h k = k
   sound-stays home (HeldCallable y) h k = s.callable y h k
@@ -62,6 +62,8 @@ module _ (d d' : Data) (i : HasItsIds d) (s : StaysFound d d') where
   sound-stays home (HeldPrototype y) h k = k
   sound-stays home (HeldObject id) h k = k
   sound-stays home (HeldCollection id) h k = s.collection id h k
+  sound-stays home (HeldArray id) h k = s.arrays id home k
+  sound-stays home (HeldPlain id) h k = s.plain id home k
   sound-stays home (HeldKey key) h k = k
   sound-stays home (HeldKeys keys) h k = k
   sound-stays home (HeldKeyIf key) h k = k
@@ -70,7 +72,8 @@ module _ (d d' : Data) (i : HasItsIds d) (s : StaysFound d d') where
   sound-stays home (HeldScope scope) h k = s.scopes scope home h k
   sound-stays home (HeldNode test n) h k = node-stays home test n k
   sound-stays home (HeldNodeIf None) h k = k
-  sound-stays home (HeldNodeIf (Some id)) h k = node-stays home is_node id.0 k
+  sound-stays home (HeldSign sign) h k = k
+  sound-stays home (HeldNodeIf (Some id)) h k = node-stays home is_evaluated id.0 k
   sound-stays home (HeldDesc y) h k = (k.0, fields-stay y h k.1)
   sound-stays home (HeldFields y) h k = fields-stay y h k
   sound-stays home (HeldFull full) h k = property-stays full h k

@@ -5,7 +5,7 @@ use Rattle.mb_world.proofs.Grow.{FullIn-grows, KeyIn-grows, Maybe-weaker, ValueI
 use Rattle.std.proofs.Common.{arith}
 use Rattle.std.proofs.Common.{◌++◌, Bool, List, None, Option, Some, [], false, refl, true, ℕ, ◌∷◌}
 use Rattle.mb_desc.specs.declared.descriptor.Desc.{Desc}
-use Rattle.mb_frames.specs.Held.{AreIn, DescIn, Held, HeldBegan, HeldCallable, HeldCollection, HeldConstructor, HeldDesc, HeldEntered, HeldFields, HeldFull, HeldIn, HeldKey, HeldKeyIf, HeldKeys, HeldNode, HeldNodeIf, HeldObject, HeldPlace, HeldPrototype, HeldReal, HeldScope, HeldText, HeldTextIf, HeldValue, HeldValues}
+use Rattle.mb_frames.specs.Held.{AreIn, DescIn, Held, HeldArray, HeldBegan, HeldCallable, HeldCollection, HeldConstructor, HeldDesc, HeldEntered, HeldFields, HeldFull, HeldIn, HeldKey, HeldKeyIf, HeldKeys, HeldNode, HeldNodeIf, HeldObject, HeldPlace, HeldPlain, HeldPrototype, HeldReal, HeldScope, HeldSign, HeldText, HeldTextIf, HeldValue, HeldValues}
 use Rattle.mb_frames.specs.Holding.{MachineIn, StackIn, done_held, frame_held, move_held, passage_held, task_held}
 use Rattle.mb_frames.specs.Standing.{Across, Here, Logged, Passage, above, at_home, done_by, left_by, move_of, row_of, under_way}
 use Rattle.mb_frames.specs.Stepping.{HasItsOutcome, IsWait, MayCross, MayPass, Stepped, Written}
@@ -32,7 +32,7 @@ module _ (d d' : Data) (g : Grows d d') where
     set_in = Maybe-weaker (ValueIn d) (ValueIn d') (ValueIn-grows d d' g) y.set h.set_in;
   }
 
-  held-grows : (y : Held) → HeldIn d y → HeldIn d' y
+  pub held-grows : (y : Held) → HeldIn d y → HeldIn d' y
   held-grows (HeldValue y) h = ValueIn-grows d d' g y h
   held-grows (HeldValues ys) h = All-weaker (ValueIn d) (ValueIn d') (ValueIn-grows d d' g) ys h
   held-grows (HeldCallable y) h = ValueIn-grows d d' g y h
@@ -40,6 +40,8 @@ module _ (d d' : Data) (g : Grows d d') where
   held-grows (HeldPrototype y) h = ValueIn-grows d d' g y h
   held-grows (HeldObject id) h = omega (arith, h, g.cells_in)
   held-grows (HeldCollection id) h = omega (arith, h, g.cells_in)
+  held-grows (HeldArray id) h = omega (arith, h, g.cells_in)
+  held-grows (HeldPlain id) h = omega (arith, h, g.cells_in)
   held-grows (HeldKey key) h = KeyIn-grows d d' g key h
   held-grows (HeldKeys keys) h = All-weaker (KeyIn d) (KeyIn d') (KeyIn-grows d d' g) keys h
   held-grows (HeldKeyIf key) h = Maybe-weaker (KeyIn d) (KeyIn d') (KeyIn-grows d d' g) key h
@@ -49,6 +51,7 @@ module _ (d d' : Data) (g : Grows d d') where
   held-grows (HeldScope scope) h = omega (arith, h, g.scopes_in)
   held-grows (HeldNode test node) h = h
   held-grows (HeldNodeIf id) h = h
+  held-grows (HeldSign sign) h = h
   held-grows (HeldDesc y) h = desc-grows y h
   held-grows (HeldFields y) h = desc-grows y h
   held-grows (HeldFull full) h = FullIn-grows d d' g full h

@@ -20,7 +20,7 @@ fits-same SomeKeys = refl
 fits-same ASlot = refl
 fits-same ACompletion = refl
 
-completes : (a : Sort) → fits a ACompletion ≡ true
+pub completes : (a : Sort) → fits a ACompletion ≡ true
 completes AnObject = refl
 completes APrototype = refl
 completes AValue = refl

@@ -8,7 +8,7 @@ use Rattle.mb_desc.specs.declared.descriptor.Full.{Full}
 use Rattle.mb_desc.specs.declared.descriptor.Full.TheVariants.{Datum, Accessor}
 use Rattle.mb_frames.proofs.Growing.{below-in}
 use Rattle.mb_frames.proofs.Parts.{all-both, all-first, same-ends, same-lasts, same-starts}
-use Rattle.mb_frames.specs.Held.{AreIn, DescIn, Held, HeldBegan, HeldCallable, HeldCollection, HeldConstructor, HeldDesc, HeldEntered, HeldFields, HeldFull, HeldIn, HeldKey, HeldKeyIf, HeldKeys, HeldNode, HeldNodeIf, HeldObject, HeldPlace, HeldPrototype, HeldReal, HeldScope, HeldText, HeldTextIf, HeldValue, HeldValues}
+use Rattle.mb_frames.specs.Held.{AreIn, DescIn, Held, HeldArray, HeldBegan, HeldCallable, HeldCollection, HeldConstructor, HeldDesc, HeldEntered, HeldFields, HeldFull, HeldIn, HeldKey, HeldKeyIf, HeldKeys, HeldNode, HeldNodeIf, HeldObject, HeldPlace, HeldPlain, HeldPrototype, HeldReal, HeldScope, HeldSign, HeldText, HeldTextIf, HeldValue, HeldValues}
 use Rattle.mb_frames.specs.Holding.{MachineIn, StackIn, done_held, frame_held, move_held, task_held}
 use Rattle.mb_frames.specs.Standing.{Across, Here, Logged, Passage, above, done_by, home_of, left_by, move_of, row_of, under_way}
 use Rattle.mb_frames.specs.Stepping.{MayPass, Stepped, Written}
@@ -72,7 +72,7 @@ module _ (d : Data) where
   pub of-id : (o : ObjId) → ObjIn d o → All (ObjIn d) (o ∷ [])
   of-id o h = All-cons (ObjIn d) o [] h (All-nil (ObjIn d))
 
-  of-held : (y : Held) → HeldIn d y → All (ObjIn d) (in_held y)
+  pub of-held : (y : Held) → HeldIn d y → All (ObjIn d) (in_held y)
   of-held (HeldValue y) h = of-value y h
   of-held (HeldValues ys) h = of-values ys h
   of-held (HeldCallable y) h = of-value y h
@@ -80,6 +80,8 @@ module _ (d : Data) where
   of-held (HeldPrototype y) h = of-value y h
   of-held (HeldObject id) h = of-id id h
   of-held (HeldCollection id) h = of-id id h
+  of-held (HeldArray id) h = of-id id h
+  of-held (HeldPlain id) h = of-id id h
   of-held (HeldKey key) h = All-nil (ObjIn d)
   of-held (HeldKeys keys) h = All-nil (ObjIn d)
   of-held (HeldKeyIf key) h = All-nil (ObjIn d)
@@ -88,6 +90,7 @@ module _ (d : Data) where
   of-held (HeldScope scope) h = All-nil (ObjIn d)
   of-held (HeldNode test node) h = All-nil (ObjIn d)
   of-held (HeldNodeIf id) h = All-nil (ObjIn d)
+  of-held (HeldSign sign) h = All-nil (ObjIn d)
   of-held (HeldDesc y) h = of-desc y h
   of-held (HeldFields y) h = of-desc y h
   of-held (HeldFull full) h = of-full full h

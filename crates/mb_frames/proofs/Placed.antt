@@ -22,7 +22,7 @@ use Rattle.std.specs.Prelude.{All}
 
 -- ---- lists in which one changed
 
-set-forth : {A : Type 0} (xs : List A) (k : ℕ) (x y : A) (n : ℕ) (z : A) → slice_get xs k ≡ Some x
+pub set-forth : {A : Type 0} (xs : List A) (k : ℕ) (x y : A) (n : ℕ) (z : A) → slice_get xs k ≡ Some x
     → slice_get xs n ≡ Some z
     → ((z ≡ x) × (slice_get (slice_set xs k y) n ≡ Some y)) ⊎ (slice_get (slice_set xs k y) n ≡ Some z)
 set-forth [] k x y n z e h = inr h
@@ -42,7 +42,7 @@ set-back (u ∷ us) (suc k) x y (suc n) z e h = set-back us k x y n z e h
 
 -- ---- kinds
 
-part-kept : (k later : CellKind) → KeepsKind k later → is_of_membrane k ≡ false → is_of_membrane later ≡ false
+pub part-kept : (k later : CellKind) → KeepsKind k later → is_of_membrane k ≡ false → is_of_membrane later ≡ false
 part-kept kind.Plain later h s = rw h s
 part-kept kind.Array later h s = rw h s
 part-kept (kind.Function code) later h s = rw h s
@@ -95,20 +95,19 @@ none-of-two d home (kind.Collection coll) h = tt
 
 -- ---- worlds
 
-module _ (home : Side) (d : Data) (i : HasItsIds d) (c : Contained d) (p : Paired d) (id : ObjId) (x y : Cell)
-    (e : cell_at d id ≡ Some x) (h : x.home ≡ home) (m : is_of_membrane x.kind ≡ false)
-    (k : KeepsCell d (set_cell d id y) x y) where
-  set-grows : Grows d (set_cell d id y)
+module _ (d : Data) (i : HasItsIds d) (id : ObjId) (x y : Cell) (e : cell_at d id ≡ Some x)
+    (m : is_of_membrane x.kind ≡ false) (k : KeepsCell d (set_cell d id y) x y) where
+  pub set-grows : Grows d (set_cell d id y)
   set-grows = Grows-set d id x y e (stand-kept x.kind y.kind k.kind)
 
-  set-cells : (n : ObjId) (z : Cell) → cell_at d n ≡ Some z
+  pub set-cells : (n : ObjId) (z : Cell) → cell_at d n ≡ Some z
       → (w : Cell) × (cell_at (set_cell d id y) n ≡ Some w) × KeepsCell d (set_cell d id y) z w
   set-cells n z u = elim (set-forth d.cells id.0 x y n.0 z e u) [
     | inl r ↦ (y, r.1, subst (λ (w : Cell). KeepsCell d (set_cell d id y) w y) (sym r.0) k)
     | inr r ↦ (z, r, still d (set_cell d id y) set-grows z (All-at (CellIn d) d.cells n.0 z u i.cells_in))
   ]
 
-  set-parts : (n : ObjId) (z : Cell) → is_of_membrane z.kind ≡ true
+  pub set-parts : (n : ObjId) (z : Cell) → is_of_membrane z.kind ≡ true
       → (cell_at d n ≡ Some z → cell_at (set_cell d id y) n ≡ Some z)
       × (cell_at (set_cell d id y) n ≡ Some z → cell_at d n ≡ Some z)
   set-parts n z t = (
@@ -126,7 +125,7 @@ module _ (home : Side) (d : Data) (i : HasItsIds d) (c : Contained d) (p : Paire
   )
 
   -- a built-in was one before
-  set-place : (n : ObjId) (z : Cell) (place : ℕ) → cell_at (set_cell d id y) n ≡ Some z → z.kind ≡ kind.BuiltIn place
+  pub set-place : (n : ObjId) (z : Cell) (place : ℕ) → cell_at (set_cell d id y) n ≡ Some z → z.kind ≡ kind.BuiltIn place
       → (w : Cell) × (cell_at d n ≡ Some w) × (z.home ≡ w.home) × (w.kind ≡ kind.BuiltIn place)
   set-place n z place u q =
       let b = set-back d.cells id.0 x y n.0 z e u in
@@ -141,12 +140,15 @@ module _ (home : Side) (d : Data) (i : HasItsIds d) (c : Contained d) (p : Paire
         )
       ]
 
+module _ (home : Side) (d : Data) (i : HasItsIds d) (c : Contained d) (p : Paired d) (id : ObjId) (x y : Cell)
+    (e : cell_at d id ≡ Some x) (h : x.home ≡ home) (m : is_of_membrane x.kind ≡ false)
+    (k : KeepsCell d (set_cell d id y) x y) where
   set-own : All (IsOwn d home) (in_cell y) → All (ObjIn d) (in_cell y) → CellOwn (set_cell d id y) y
   set-own o q =
       let r : y.home ≡ home = k.home ∙ h in
       record {
         own = subst (λ (s : Side). All (IsOwn (set_cell d id y) s) (in_cell y)) (sym r)
-            (ids-own d (set_cell d id y) (owns d (set_cell d id y) set-cells) home (in_cell y) q o);
+            (ids-own d (set_cell d id y) (owns d (set_cell d id y) (set-cells d i id x y e m k)) home (in_cell y) q o);
         two = none-of-two (set_cell d id y) y.home y.kind (part-kept x.kind y.kind k.kind m);
         table = table-kept x.kind y.kind k.kind (All-at (λ (w : Cell). IsOfTable w.kind) d.cells id.0 x e c.of_table);
       }
@@ -155,27 +157,27 @@ module _ (home : Side) (d : Data) (i : HasItsIds d) (c : Contained d) (p : Paire
   set-kept o q =
       let all : All (CellOwn (set_cell d id y)) (slice_set d.cells id.0 y)
       = All-set (CellOwn (set_cell d id y)) d.cells id.0 y (set-own o q)
-      (cells-own d (set_cell d id y) set-cells i c) in
+      (cells-own d (set_cell d id y) (set-cells d i id x y e m k) i c) in
       record {
         contained = record {
           cells_own = λ u v w. (all u v w).own;
           two_of_proxies = λ u v w. (all u v w).two;
-          scopes_own = scopes-own d (set_cell d id y) set-cells i c;
-          jobs_own = jobs-own d (set_cell d id y) set-cells i c;
+          scopes_own = scopes-own d (set_cell d id y) (set-cells d i id x y e m k) i c;
+          jobs_own = jobs-own d (set_cell d id y) (set-cells d i id x y e m k) i c;
           of_table = λ u v w. (all u v w).table;
           one_for_a_place = λ a b place f g u v w s t.
-              let l = set-place a f place u s in
-              let r = set-place b g place v t in
+              let l = set-place d i id x y e m k a f place u s in
+              let r = set-place d i id x y e m k b g place v t in
               c.one_for_a_place a b place l.0 r.0 l.1 r.1 (sym l.2 ∙ w ∙ r.2) l.3 r.3;
         };
-        paired = paired-from d (set_cell d id y) i set-parts set-cells set-grows p refl refl;
+        paired = paired-from d (set_cell d id y) i (set-parts d i id x y e m k) (set-cells d i id x y e m k) (set-grows d i id x y e m k) p refl refl;
         rules = refl;
         entries = refl;
         revoked = refl;
         joined = refl;
-        membrane = set-parts;
-        resolves = set-grows;
+        membrane = (set-parts d i id x y e m k);
+        resolves = (set-grows d i id x y e m k);
         opposite = rw (filter-set (λ (w : ℕ × Cell). not (same_side w.1.home home)) 0 d.cells id.0 x y e
             (λ n. rw h (ap not (same-side home))) (λ n. rw (k.home, h) (ap not (same-side home)))) refl;
-        cells = set-cells;
+        cells = (set-cells d i id x y e m k);
       }

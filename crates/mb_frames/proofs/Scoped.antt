@@ -1,6 +1,7 @@
 -- Worlds after calls that leave their cells: a text, a scope, a changed scope, and the jobs of a side.
 use Rattle.mb_base.specs.declared.value.ObjId.{ObjId}
 use Rattle.mb_base.specs.declared.value.ScopeId.{ScopeId}
+use Rattle.mb_base.specs.declared.value.StrId.{StrId}
 use Rattle.mb_base.specs.declared.value.Side.{Side}
 use Rattle.mb_frames.proofs.AfterCalls.{filter-last, same-side, still}
 use Rattle.mb_frames.proofs.Changing.{paired-from}
@@ -8,16 +9,16 @@ use Rattle.mb_frames.specs.Wholeness.{KeepsCell, KeptWorld}
 use Rattle.mb_text.specs.Texts.{with_text}
 use Rattle.mb_world.proofs.AfterCalls.{text}
 use Rattle.mb_world.proofs.Grow.{All-at}
-use Rattle.mb_world.proofs.Making.{Grows-scope}
+use Rattle.mb_world.proofs.Making.{Grows-scope, Grows-symbol}
 use Rattle.mb_world.proofs.Worlds.{Grows-queues, Grows-scopes}
 use Rattle.mb_world.specs.Contained.{Contained, IsOwn, Paired, in_job, in_scope, numbered}
-use Rattle.mb_world.specs.Data.{Data, cell_at, same_side, scope_at, set_scope, with_queue, with_scope, with_texts}
+use Rattle.mb_world.specs.Data.{Data, cell_at, same_side, scope_at, set_scope, with_queue, with_scope, with_symbol, with_texts}
 use Rattle.mb_world.specs.Grows.{Grows}
 use Rattle.mb_world.specs.Ids.{CellIn, HasItsIds}
 use Rattle.mb_world.specs.declared.cell.Cell.{Cell}
 use Rattle.mb_world.specs.declared.scope.Job.{Job}
 use Rattle.mb_world.specs.declared.scope.Scope.{Scope}
-use Rattle.std.proofs.Common.{Bool, List, Some, [], ap, arith, cond, false, nat_eq, not, refl, slice_get, slice_set, subst, sym, zero, suc, ℕ, ◌+◌, ◌∙◌, ◌∷◌, ◌≡◌}
+use Rattle.std.proofs.Common.{Bool, List, Option, Some, [], ap, arith, cond, false, nat_eq, not, refl, slice_get, slice_set, subst, sym, zero, suc, ℕ, ◌+◌, ◌∙◌, ◌∷◌, ◌≡◌}
 use Rattle.std.proofs.lemmas.Bool.Decides.{nat_tests}
 use Rattle.std.proofs.lemmas.List.Elements.{All-push, All-set}
 use Rattle.std.specs.List.{filter}
@@ -75,6 +76,32 @@ module _ (home : Side) (d : Data) (i : HasItsIds d) (c : Contained d) (p : Paire
           one_for_a_place = c.one_for_a_place;
         };
         paired = paired-from d (with_texts d (with_text d.texts t)) i (λ id x m. (λ e. e, λ e. e)) k g p refl refl;
+        rules = refl;
+        entries = refl;
+        revoked = refl;
+        joined = refl;
+        membrane = λ id x m. (λ e. e, λ e. e);
+        resolves = g;
+        opposite = refl;
+        cells = k;
+      }
+
+  pub symbol-kept : (t : Option StrId) → KeptWorld home d (with_symbol d t)
+  symbol-kept t =
+      let g : Grows d (with_symbol d t) = Grows-symbol d t in
+      let k : (id : ObjId) (x : Cell) → cell_at d id ≡ Some x
+      → (e : Cell) × (cell_at (with_symbol d t) id ≡ Some e) × KeepsCell d (with_symbol d t) x e
+      = λ id x e. (x, e, still d (with_symbol d t) g x (All-at (CellIn d) d.cells id.0 x e i.cells_in)) in
+      record {
+        contained = record {
+          cells_own = c.cells_own;
+          two_of_proxies = c.two_of_proxies;
+          scopes_own = c.scopes_own;
+          jobs_own = c.jobs_own;
+          of_table = c.of_table;
+          one_for_a_place = c.one_for_a_place;
+        };
+        paired = paired-from d (with_symbol d t) i (λ id x m. (λ e. e, λ e. e)) k g p refl refl;
         rules = refl;
         entries = refl;
         revoked = refl;

@@ -154,7 +154,7 @@ top-pushed (z ∷ u ∷ zs) y ys = top-pushed (u ∷ zs) y ys
 
 stack-before : {A : Type 0} (below : List Waiting) (top : Waiting) (ended : Option A)
     → stack_weight (below ++ (top ∷ [])) ended ≡ 2 * length below + 2 + start_weight top.frame + done_weight ended
-stack-before below top done =
+stack-before below top ended =
     omega (arith, length-append below (top ∷ []), top-pushed below top [])
 
 stack-after : (begun : Bool) (p : Row) (below : List Waiting) (m : Passage) → AreWaits below → MayPass begun p m

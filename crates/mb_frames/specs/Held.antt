@@ -8,6 +8,7 @@ use Rattle.mb_base.specs.declared.value.ScopeId.{ScopeId}
 use Rattle.mb_base.specs.declared.value.StrId.{StrId}
 use Rattle.mb_desc.specs.declared.descriptor.Desc.{Desc}
 use Rattle.mb_desc.specs.declared.descriptor.Full.{Full}
+use Rattle.mb_tree.specs.declared.kind.Sign.{Sign}
 use Rattle.mb_world.specs.Data.{Data}
 use Rattle.mb_world.specs.Form.{Form}
 use Rattle.mb_world.specs.Ids.{FullIn, KeyIn, Maybe, ObjIn, ScopeIn, TextIn, ValueIn}
@@ -23,6 +24,9 @@ pub data Held : Type 0 where
   HeldObject : ObjId → Held
   -- a collection
   HeldCollection : ObjId → Held
+  -- an array and a plain object that rows of the frame's home made
+  HeldArray : ObjId → Held
+  HeldPlain : ObjId → Held
   HeldKey : Key → Held
   HeldKeys : List Key → Held
   HeldKeyIf : Option Key → Held
@@ -33,6 +37,8 @@ pub data Held : Type 0 where
   -- a node of its home's script that passes the test
   HeldNode : (Option Form → Bool) → ℕ → Held
   HeldNodeIf : Option NodeId → Held
+  -- an operator that asks no object
+  HeldSign : Sign → Held
   -- a descriptor; one whose fields are still being read
   HeldDesc : Desc Value → Held
   HeldFields : Desc Value → Held
@@ -60,6 +66,8 @@ HeldIn d (HeldConstructor x) = ValueIn d x
 HeldIn d (HeldPrototype x) = ValueIn d x
 HeldIn d (HeldObject id) = ObjIn d id
 HeldIn d (HeldCollection id) = ObjIn d id
+HeldIn d (HeldArray id) = ObjIn d id
+HeldIn d (HeldPlain id) = ObjIn d id
 HeldIn d (HeldKey key) = KeyIn d key
 HeldIn d (HeldKeys keys) = All (KeyIn d) keys
 HeldIn d (HeldKeyIf key) = Maybe (KeyIn d) key
@@ -68,6 +76,7 @@ HeldIn d (HeldTextIf text) = Maybe (TextIn d) text
 HeldIn d (HeldScope scope) = ScopeIn d scope
 HeldIn d (HeldNode test node) = Unit {0}
 HeldIn d (HeldNodeIf id) = Unit {0}
+HeldIn d (HeldSign sign) = Unit {0}
 HeldIn d (HeldDesc given) = DescIn d given
 HeldIn d (HeldFields given) = DescIn d given
 HeldIn d (HeldFull full) = FullIn d full

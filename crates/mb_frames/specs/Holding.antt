@@ -1,8 +1,8 @@
 -- What stands in tasks, in outcomes and in frames, piece by piece, in the order of their parts.
 use Rattle.std.specs.List.{AllByRecursion}
 use Rattle.std.specs.Prelude.{◌++◌, List, None, Option, Some, [], ◌∷◌}
-use Rattle.mb_frames.specs.Held.{AreIn, Held, HeldBegan, HeldCallable, HeldCollection, HeldConstructor, HeldDesc, HeldEntered, HeldFields, HeldFull, HeldKey, HeldKeyIf, HeldKeys, HeldNode, HeldNodeIf, HeldObject, HeldPlace, HeldPrototype, HeldReal, HeldScope, HeldText, HeldTextIf, HeldValue, HeldValues}
-use Rattle.mb_frames.specs.Kinds.{is_array_form, is_call_form, is_declaring_form, is_do_form, is_for_form, is_function_form, is_list_form, is_new_form, is_node, is_object_form, is_prop_form, is_seq_form, is_try_form, is_while_form}
+use Rattle.mb_frames.specs.Held.{AreIn, Held, HeldArray, HeldBegan, HeldCallable, HeldCollection, HeldConstructor, HeldDesc, HeldEntered, HeldFields, HeldFull, HeldKey, HeldKeyIf, HeldKeys, HeldNode, HeldNodeIf, HeldObject, HeldPlace, HeldPlain, HeldPrototype, HeldReal, HeldScope, HeldSign, HeldText, HeldTextIf, HeldValue, HeldValues}
+use Rattle.mb_frames.specs.Kinds.{is_array_form, is_call_form, is_declaring_form, is_do_form, is_evaluated, is_expression, is_for_form, is_function_form, is_list_form, is_new_form, is_object_form, is_prop_form, is_seq_form, is_try_form, is_while_form}
 use Rattle.mb_frames.specs.Standing.{Across, Here, Passage}
 use Rattle.mb_world.specs.Data.{Data}
 use Rattle.mb_base.specs.declared.value.Value.{Value}
@@ -90,7 +90,7 @@ request_held q.Size = []
 request_held (q.Slot place) = []
 
 abbrev pub task_held : Task → List Held
-task_held (task.Evaluate node at) = HeldScope at.scope ∷ HeldValue at.this ∷ HeldNode is_node node.0 ∷ []
+task_held (task.Evaluate node at) = HeldScope at.scope ∷ HeldValue at.this ∷ HeldNode is_evaluated node.0 ∷ []
 task_held (task.Loop node at) = HeldScope at.scope ∷ HeldValue at.this ∷ HeldNode is_for_form node.0 ∷ []
 task_held (task.Chain object prototype) = HeldObject object ∷ HeldObject prototype ∷ []
 task_held (task.Walk object given next) = HeldObject object ∷ HeldPrototype given ∷ HeldPrototype next ∷ []
@@ -133,8 +133,8 @@ reference_held (reference.Place base key) = HeldValue base ∷ HeldKey key ∷ [
 
 abbrev pub after_held : After → List Held
 after_held after.Get = []
-after_held (after.Assign value) = HeldNode is_node value.0 ∷ []
-after_held (after.Compound sign value) = HeldNode is_node value.0 ∷ []
+after_held (after.Assign value) = HeldNode is_expression value.0 ∷ []
+after_held (after.Compound sign value) = HeldNode is_expression value.0 ∷ HeldSign sign ∷ []
 after_held (after.Update plus prefix) = []
 after_held (after.Call node) = HeldNode is_call_form node.0 ∷ []
 after_held after.Delete = []
@@ -162,15 +162,15 @@ member_held (member.Join separator) = HeldValue separator ∷ []
 
 abbrev pub callback_held : Callback → List Held
 callback_held (callback.ForEach function this) = HeldCallable function ∷ HeldValue this ∷ []
-callback_held (callback.Map function this array) = HeldCallable function ∷ HeldValue this ∷ HeldObject array ∷ []
+callback_held (callback.Map function this array) = HeldCallable function ∷ HeldValue this ∷ HeldArray array ∷ []
 callback_held (callback.Filter function this array count) =
-    HeldCallable function ∷ HeldValue this ∷ HeldObject array ∷ []
+    HeldCallable function ∷ HeldValue this ∷ HeldArray array ∷ []
 callback_held (callback.Reduce function so_far) = HeldCallable function ∷ value_if so_far
 
 abbrev pub turn_held : Turn → List Held
 turn_held (turn.Call callback) = callback_held callback
 turn_held (turn.IndexOf value) = HeldValue value ∷ []
-turn_held (turn.Slice array from) = HeldObject array ∷ []
+turn_held (turn.Slice array from) = HeldArray array ∷ []
 
 abbrev pub visiting_held : Visiting → List Held
 visiting_held at =
@@ -180,21 +180,22 @@ visiting_held at =
 
 abbrev pub expr_held : ExprFrame → List Held
 expr_held (e.Element at node array place) =
-    HeldScope at.scope ∷ HeldValue at.this ∷ HeldNode is_array_form node.0 ∷ HeldObject array ∷ []
+    HeldScope at.scope ∷ HeldValue at.this ∷ HeldNode is_array_form node.0 ∷ HeldArray array ∷ []
 expr_held (e.PropKey at node object property place) =
-    HeldScope at.scope ∷ HeldValue at.this ∷ HeldNode is_object_form node.0 ∷ HeldObject object ∷
+    HeldScope at.scope ∷ HeldValue at.this ∷ HeldNode is_object_form node.0 ∷ HeldPlain object ∷
     HeldNode is_prop_form property.0 ∷ []
 expr_held (e.PropValue at node object place key) =
-    HeldScope at.scope ∷ HeldValue at.this ∷ HeldNode is_object_form node.0 ∷ HeldObject object ∷ HeldKey key ∷ []
+    HeldScope at.scope ∷ HeldValue at.this ∷ HeldNode is_object_form node.0 ∷ HeldPlain object ∷ HeldKey key ∷ []
 expr_held (e.MemberBase at name after) = HeldScope at.scope ∷ HeldValue at.this ∷ HeldText name ∷ after_held after
 expr_held (e.IndexBase at key after) =
-    HeldScope at.scope ∷ HeldValue at.this ∷ HeldNode is_node key.0 ∷ after_held after
+    HeldScope at.scope ∷ HeldValue at.this ∷ HeldNode is_expression key.0 ∷ after_held after
 expr_held (e.IndexKey at base after) = HeldScope at.scope ∷ HeldValue at.this ∷ HeldValue base ∷ after_held after
 expr_held e.Got = []
 expr_held (e.AssignValue at to) = HeldScope at.scope ∷ HeldValue at.this ∷ reference_held to
 expr_held (e.CompoundOld at sign value to) =
-    HeldScope at.scope ∷ HeldValue at.this ∷ HeldNode is_node value.0 ∷ reference_held to
-expr_held (e.CompoundValue at sign old to) = HeldScope at.scope ∷ HeldValue at.this ∷ HeldValue old ∷ reference_held to
+    HeldScope at.scope ∷ HeldValue at.this ∷ HeldNode is_expression value.0 ∷ HeldSign sign ∷ reference_held to
+expr_held (e.CompoundValue at sign old to) =
+    HeldScope at.scope ∷ HeldValue at.this ∷ HeldValue old ∷ HeldSign sign ∷ reference_held to
 expr_held (e.UpdateOld at plus prefix to) = HeldScope at.scope ∷ HeldValue at.this ∷ reference_held to
 expr_held (e.Put gives) = HeldValue gives ∷ []
 expr_held (e.Callee at node this) =
@@ -205,16 +206,16 @@ expr_held (e.Argument at node callee this done) =
 expr_held (e.Constructor at node) = HeldScope at.scope ∷ HeldValue at.this ∷ HeldNode is_new_form node.0 ∷ []
 expr_held (e.NewArgument at node callee done) =
     HeldScope at.scope ∷ HeldValue at.this ∷ HeldNode is_new_form node.0 ∷ HeldValue callee ∷ HeldValues done ∷ []
-expr_held (e.Or at right) = HeldScope at.scope ∷ HeldValue at.this ∷ HeldNode is_node right.0 ∷ []
-expr_held (e.And at right) = HeldScope at.scope ∷ HeldValue at.this ∷ HeldNode is_node right.0 ∷ []
+expr_held (e.Or at right) = HeldScope at.scope ∷ HeldValue at.this ∷ HeldNode is_expression right.0 ∷ []
+expr_held (e.And at right) = HeldScope at.scope ∷ HeldValue at.this ∷ HeldNode is_expression right.0 ∷ []
 expr_held (e.Cond at main other) =
-    HeldScope at.scope ∷ HeldValue at.this ∷ HeldNode is_node main.0 ∷ HeldNode is_node other.0 ∷ []
+    HeldScope at.scope ∷ HeldValue at.this ∷ HeldNode is_expression main.0 ∷ HeldNode is_expression other.0 ∷ []
 expr_held (e.Seq at node next) = HeldScope at.scope ∷ HeldValue at.this ∷ HeldNode is_seq_form node.0 ∷ []
 expr_held e.Not = []
 expr_held e.Negate = []
 expr_held e.Typeof = []
 expr_held e.Deleted = []
-expr_held (e.Left at sign right) = HeldScope at.scope ∷ HeldValue at.this ∷ HeldNode is_node right.0 ∷ []
+expr_held (e.Left at sign right) = HeldScope at.scope ∷ HeldValue at.this ∷ HeldNode is_expression right.0 ∷ []
 expr_held (e.Right sign left) = HeldValue left ∷ []
 expr_held e.Has = []
 expr_held (e.InstancePrototype object) = HeldObject object ∷ []
@@ -226,12 +227,12 @@ stmt_held (t.Declared at node name next) =
     HeldScope at.scope ∷ HeldValue at.this ∷ HeldNode is_declaring_form node.0 ∷ HeldText name ∷ []
 stmt_held t.Expression = []
 stmt_held (t.If at main other) =
-    HeldScope at.scope ∷ HeldValue at.this ∷ HeldNode is_node main.0 ∷ HeldNodeIf other ∷ []
+    HeldScope at.scope ∷ HeldValue at.this ∷ HeldNode is_evaluated main.0 ∷ HeldNodeIf other ∷ []
 stmt_held (t.WhileTest at node body) =
-    HeldScope at.scope ∷ HeldValue at.this ∷ HeldNode is_while_form node.0 ∷ HeldNode is_node body.0 ∷ []
+    HeldScope at.scope ∷ HeldValue at.this ∷ HeldNode is_while_form node.0 ∷ HeldNode is_evaluated body.0 ∷ []
 stmt_held (t.WhileBody at node) = HeldScope at.scope ∷ HeldValue at.this ∷ HeldNode is_while_form node.0 ∷ []
 stmt_held (t.DoBody at node test) =
-    HeldScope at.scope ∷ HeldValue at.this ∷ HeldNode is_do_form node.0 ∷ HeldNode is_node test.0 ∷ []
+    HeldScope at.scope ∷ HeldValue at.this ∷ HeldNode is_do_form node.0 ∷ HeldNode is_expression test.0 ∷ []
 stmt_held (t.DoTest at node) = HeldScope at.scope ∷ HeldValue at.this ∷ HeldNode is_do_form node.0 ∷ []
 stmt_held (t.ForFirst at node) = HeldScope at.scope ∷ HeldValue at.this ∷ HeldNode is_for_form node.0 ∷ []
 stmt_held (t.ForTest at node) = HeldScope at.scope ∷ HeldValue at.this ∷ HeldNode is_for_form node.0 ∷ []

@@ -1,3 +1,5 @@
+pub mod Told
+pub mod Running
 pub mod Resolved
 pub mod Rest
 pub mod Kinds
@@ -6,5 +8,14 @@ pub mod Standing
 pub mod Holding
 pub mod Stepping
 pub mod Sorts
+pub mod Grammatical
 pub mod Failing
 pub mod Wholeness
+pub mod Ready
+pub mod Found
+pub mod Real
+pub mod Passing
+pub mod Going
+pub mod Keeping
+pub mod Making
+pub mod machine

@@ -5,20 +5,21 @@ use Rattle.mb_frames.specs.Stepping.{Grew}
 use Rattle.mb_world.specs.Ids.{ObjIn, ScopeIn, ValueIn}
 use Rattle.mb_frames.specs.Held.{HeldKeyIf}
 use Rattle.std.specs.List.{AllByRecursion, flat_map}
-use Rattle.std.specs.Prelude.{◌++◌, ◌<◌, All, List, None, Option, Some, [], false, length, map, slice_get, true, ℕ, ◌∷◌, ◌≡◌, ◌≢◌, ◌≤◌, ◌⊎◌}
+use Rattle.std.specs.Prelude.{◌++◌, ◌<◌, All, IsSomeAnd, List, None, Option, Some, [], false, length, map, slice_get, true, ℕ, ◌∷◌, ◌≡◌, ◌≢◌, ◌≤◌, ◌⊎◌}
 use Rattle.mb_base.specs.declared.value.ObjId.{ObjId}
 use Rattle.mb_base.specs.declared.value.Side.{Side}
 use Rattle.mb_desc.specs.Descriptors.{IsOfOneKind}
 use Rattle.mb_desc.specs.View.{View}
 use Rattle.mb_desc.specs.declared.descriptor.Desc.{Desc}
 use Rattle.mb_desc.specs.declared.descriptor.Full.{Full}
-use Rattle.mb_frames.specs.Held.{Held, HeldBegan, HeldCallable, HeldCollection, HeldConstructor, HeldDesc, HeldEntered, HeldFields, HeldFull, HeldKey, HeldKeys, HeldNode, HeldNodeIf, HeldObject, HeldPlace, HeldPrototype, HeldReal, HeldScope, HeldText, HeldTextIf, HeldValue, HeldValues}
+use Rattle.mb_frames.specs.Held.{Held, HeldArray, HeldBegan, HeldCallable, HeldCollection, HeldConstructor, HeldDesc, HeldEntered, HeldFields, HeldFull, HeldKey, HeldKeys, HeldNode, HeldNodeIf, HeldObject, HeldPlace, HeldPlain, HeldPrototype, HeldReal, HeldScope, HeldSign, HeldText, HeldTextIf, HeldValue, HeldValues}
 use Rattle.mb_frames.specs.Holding.{MachineIn, done_held, frame_held, move_held}
-use Rattle.mb_frames.specs.Kinds.{is_node}
+use Rattle.mb_frames.specs.Kinds.{is_evaluated}
 use Rattle.mb_frames.specs.Sorts.{AreLinked, IsOfSort, Sort, fits, frame_sort, stack_sort}
 use Rattle.mb_frames.specs.Standing.{Across, Here, Passage, done_by, forms_at, home_of, left_by, move_of}
 use Rattle.mb_frames.specs.Stepping.{HasItsOutcome, MayCross}
 use Rattle.mb_view.specs.Views.{Evolves}
+use Rattle.mb_frames.specs.Grammatical.{asks_objects}
 use Rattle.mb_world.specs.Contained.{Contained, IsMembrane, IsOwn, Opposite, PairedFrom, in_full, in_option, in_value, scope_home}
 use Rattle.mb_world.specs.Data.{Data, Script, cell_at}
 use Rattle.mb_world.specs.Formed.{FormedBy, HasItsCallables, InRange, IsCallable, IsCallableOrNot, IsNullOrObject, full_values, is_of_membrane, option_values}
@@ -72,6 +73,10 @@ IsConstructor d y = is_constructor (Image d []) (Resolve (names_of d) y) ≡ tru
 abbrev pub IsProxyAt : Data → Side → ObjId → Type 0
 IsProxyAt d home id = (behind shadow : ObjId) × IsMembrane d id home behind shadow
 
+-- an object of that home and kind
+abbrev pub IsOfKind : Data → Side → CellKind → ObjId → Type 0
+IsOfKind d home wanted id = IsSomeAnd (cell_at d id) (λ c. (c.home ≡ home) × (c.kind ≡ wanted))
+
 abbrev pub IsSound : Data → Side → Held → Type 0
 IsSound d home (HeldValue y) = InRange y
 IsSound d home (HeldValues ys) = All InRange ys
@@ -80,6 +85,8 @@ IsSound d home (HeldConstructor y) = IsConstructor d y
 IsSound d home (HeldPrototype y) = IsNullOrObject y
 IsSound d home (HeldObject id) = Unit {0}
 IsSound d home (HeldCollection id) = IsCollectionAt d id
+IsSound d home (HeldArray id) = IsOfKind d home kind.Array id
+IsSound d home (HeldPlain id) = IsOfKind d home kind.Plain id
 IsSound d home (HeldKey key) = Unit {0}
 IsSound d home (HeldKeys keys) = Unit {0}
 IsSound d home (HeldKeyIf key) = Unit {0}
@@ -87,7 +94,8 @@ IsSound d home (HeldText text) = Unit {0}
 IsSound d home (HeldTextIf text) = Unit {0}
 IsSound d home (HeldScope scope) = scope_home d scope home
 IsSound d home (HeldNode test node) = test (slice_get (forms_at d home) node) ≡ true
-IsSound d home (HeldNodeIf id) = Maybe (λ node. is_node (slice_get (forms_at d home) node.0) ≡ true) id
+IsSound d home (HeldNodeIf id) = Maybe (λ node. is_evaluated (slice_get (forms_at d home) node.0) ≡ true) id
+IsSound d home (HeldSign sign) = asks_objects sign ≡ false
 IsSound d home (HeldDesc given) = IsOfOneKind given × AreFields d given
 IsSound d home (HeldFields given) = AreFields d given
 IsSound d home (HeldFull full) = IsProperty d full
@@ -102,13 +110,15 @@ AreSound d home held = AllByRecursion (IsSound d home) held
 abbrev pub IsStackSound : Data → List Waiting → Type 0
 IsStackSound d stack = AllByRecursion (λ y. AreSound d y.home (frame_held y.frame)) stack
 
--- what was found stays found: what is called or constructs, collections, whose a scope is, the entries, and which
--- objects have a membrane proxy
+-- what was found stays found: what is called or constructs, collections, arrays and plain objects, whose a scope is,
+-- the entries, and which objects have a membrane proxy
 pub record StaysFound (d d' : Data) : Type 0 where
   pub grew : Grew d d'
   pub callable : (y : Value) → ValueIn d y → IsCallable d y → IsCallable d' y
   pub constructor : (y : Value) → ValueIn d y → IsConstructor d y → IsConstructor d' y
   pub collection : (id : ObjId) → ObjIn d id → IsCollectionAt d id → IsCollectionAt d' id
+  pub arrays : (id : ObjId) (home : Side) → IsOfKind d home kind.Array id → IsOfKind d' home kind.Array id
+  pub plain : (id : ObjId) (home : Side) → IsOfKind d home kind.Plain id → IsOfKind d' home kind.Plain id
   pub scopes : (id : ScopeId) (home : Side) → ScopeIn d id → scope_home d id home → scope_home d' id home
   pub entries : length d.entries ≤ length d'.entries
   pub proxies : (id : ObjId) (home : Side) → IsProxyAt d home id → IsProxyAt d' home id
@@ -175,6 +185,8 @@ in_held (HeldConstructor y) = in_value y
 in_held (HeldPrototype y) = in_value y
 in_held (HeldObject id) = id ∷ []
 in_held (HeldCollection id) = id ∷ []
+in_held (HeldArray id) = id ∷ []
+in_held (HeldPlain id) = id ∷ []
 in_held (HeldKey key) = []
 in_held (HeldKeys keys) = []
 in_held (HeldKeyIf key) = []
@@ -183,6 +195,7 @@ in_held (HeldTextIf text) = []
 in_held (HeldScope scope) = []
 in_held (HeldNode test node) = []
 in_held (HeldNodeIf id) = []
+in_held (HeldSign sign) = []
 in_held (HeldDesc given) = in_desc given
 in_held (HeldFields given) = in_desc given
 in_held (HeldFull full) = in_full full

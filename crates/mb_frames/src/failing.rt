@@ -1,5 +1,5 @@
 // Errors that the machine throws.
-ghost use Rattle.std.specs.Prelude.{◌≡◌, ◌<◌, ℕ, Bool, false, length, IfOk, OnErr, OnOk};
+ghost use Rattle.std.specs.Prelude.{◌≡◌, ◌<◌, ℕ, Bool, [], false, length, IfOk, OnErr, OnOk};
 ghost use Rattle.mb_base.specs.declared.value.Value.TheVariants as v;
 ghost use Rattle.mb_world.specs.Contained.{Contained, Paired};
 ghost use Rattle.mb_world.specs.Data.{obj_id};
@@ -10,6 +10,8 @@ ghost use Rattle.mb_model.specs.Writing.{fail as fail_row};
 ghost use Rattle.mb_model.specs.Meaning.{finished};
 ghost use Rattle.mb_world.specs.Ids.{HasItsIds};
 ghost use Rattle.mb_frames.specs.Failing.{HasErrorPrototype, error_place};
+ghost use Rattle.mb_frames.specs.Ready.{Keeps};
+ghost use Rattle.mb_frames.specs.Sorts.{Sort};
 ghost use Rattle.mb_frames.specs.Stepping.{Step, Written};
 
 use crate::frame::Move;
@@ -26,6 +28,7 @@ pub fn fail(w: &mut World, home: Side, kind: ErrorKind) -> Result<Move, Halt>
     ensures step { (begun : Bool) (f : ℕ) (l : Written) →
         Step home begun result w.old w.new f f l l (fail_row home.0 kind finished) }
     ensures thrown { IfOk result (λ m. m ≡ move.Done (o.Throw (v.Object (obj_id (length w.old.cells))))) }
+    ensures keeps { (wanted : Sort) → Keeps home wanted [] result w.old w.new }
     ensures kept_world { OnOk result
         (w.old.joined ≡ false → Contained w.old → Paired w.old → KeptWorld home w.old w.new) }
     ensures kept { OnErr result (w.new ≡ w.old) }

@@ -39,6 +39,9 @@ ghost use Rattle.mb_frames.specs.Failing.{HasItsBuiltIns, HasErrorPrototype};
 ghost use Rattle.mb_frames.specs.Holding.{StackIn, MachineIn, task_held, move_held, frame_held, outcome_held};
 ghost use Rattle.mb_frames.specs.Held.{AreIn};
 ghost use Rattle.mb_frames.specs.Resolved.{done_in, task_in};
+ghost use Rattle.mb_frames.specs.Ready.{IsReady};
+ghost use Rattle.mb_frames.specs.Making.{HasPrototypes};
+ghost use Rattle.mb_frames.specs.Running.{CanRun};
 ghost use Rattle.mb_frames.specs.Standing.{Tasks, ByRows, Logged, Passage, Here, left_by, hands, row_of, under_way, stack_gives, RestBy, forms_at, frame_row, entry_by};
 ghost use Rattle.mb_frames.specs.Sorts.{Sort, IsOfSort, fits, frame_sort, task_gives, waits_for};
 ghost use Rattle.mb_frames.specs.Wholeness.{AreOwn, AreSound, FormedMachine, GoesOnFormed, IsOwnBy, IsStackSound, KeepsCell, KeptWorld, MachineContained, StandsAt, StaysFound, StaysOwn, StepsKept, sort_by};
@@ -224,4 +227,10 @@ pub fn parts_that_charge()
         AreIn d (move_held (move.Entered (x.Entry y) u)) →
         Step home false (Ok (move.Entered (x.Entry y) u)) d d f f l l
         (λ g. charged_row row (task_in (names_of d) home.0 t) g) }
+{}
+
+/// A world between the steps is one in which each side that takes part can run and make functions.
+pub fn a_ready_world_can_run()
+    ensures runs { (d : Data) (home : Side) → IsReady d → home.0 < d.sides → CanRun d home }
+    ensures prototypes { (d : Data) (home : Side) → IsReady d → home.0 < d.sides → HasPrototypes d home }
 {}

@@ -4,6 +4,8 @@ ghost use Rattle.mb_world.specs.Ids.{HasItsIds};
 ghost use Rattle.mb_world.specs.declared.cell.ErrorKind.TheVariants.{TypeError};
 ghost use Rattle.mb_frames.specs.Failing.{HasErrorPrototype};
 
+mod small;
+
 use super::*;
 use mb_base::{NoMemory, NodeId, ObjId, ScopeId, Side, Value};
 use mb_world::{CellKind, ErrorKind, World};

@@ -6,6 +6,7 @@ use Rattle.mb_frames.specs.declared.frame.Move.TheVariants as move
 use Rattle.mb_frames.specs.declared.task.Outcome.TheVariants as o
 use Rattle.mb_base.specs.declared.value.Value.TheVariants as v
 use Rattle.mb_frames.proofs.Errors.{Step-fail, built-in-is, error-is, error-kept}
+use Rattle.mb_frames.proofs.Throwing.{error-keeps, halted-keeps}
 use Rattle.mb_frames.proofs.failing.fail.Goals as goal
 
 pub returns-clause-step : goal.returns-clause-step
@@ -29,3 +30,16 @@ returns-clause-kept_world c joined contained paired =
     (ap (λ n. built_in_of c.args.w.now.joined c.args.w.now.cells c.args.home n) (sym c.error_place.ensures)
     ∙ sym c.in-Some.ensures.value)
     c.in_ok-error-in-Some.ensures.made joined contained paired
+
+pub returns-clause-keeps : goal.returns-clause-keeps
+returns-clause-keeps c wanted =
+    error-keeps c.args.home wanted c.args.w.now c.make.new.self c.in-Some.prototype c.in_ok-error-in-Some.error
+    (error_place c.args.kind) c.args.kind c.in-Some.ensures.within
+    (ap (λ n. built_in_of c.args.w.now.joined c.args.w.now.cells c.args.home n) (sym c.error_place.ensures)
+    ∙ sym c.in-Some.ensures.value)
+    c.in_ok-error-in-Some.ensures.made c.in_ok-error-in-Some.ensures.id
+
+pub returns-in_err-error-in-Some-clause-keeps : goal.returns-in_err-error-in-Some-clause-keeps
+returns-in_err-error-in-Some-clause-keeps c wanted =
+    halted-keeps c.args.home wanted c.from_residual.result c.from_residual.ensures.0 c.args.w.now c.make.new.self
+    c.in_err-error-in-Some.ensures.kept
