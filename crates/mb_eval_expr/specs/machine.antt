@@ -1,0 +1,11 @@
+pub mod Computing
+pub mod Functions
+pub mod Keeping
+pub mod Literals
+pub mod Names
+pub mod Plain
+pub mod Resuming
+pub mod Standing
+pub mod Storing
+pub mod Targets
+pub mod Uses
