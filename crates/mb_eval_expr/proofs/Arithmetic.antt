@@ -40,7 +40,8 @@ module _ (home : ℕ) (d : Data) (f : ℕ) where
       → Computes (Ok (c.Value (v.Whole z))) home d d f f (whole home z >>= is_value)
   whole-near z h = (
     λ k. Passes-by d f ((whole home z >>= is_value) k) (goes_with home d (c.Value (v.Whole z)) k)
-        (λ log. ap (λ (b : Bool). let p : Does Val = if b then give (Whole z) else range_error home in (p >>= is_value) k (Image d log)) h),
+        (λ log. ap (λ (b : Bool). let p : Does Val = if b then give (Whole z) else range_error home in
+        (p >>= is_value) k (Image d log)) h),
     tt,
   )
 
@@ -48,7 +49,8 @@ module _ (home : ℕ) (d : Data) (f : ℕ) where
       → Computes (Ok (c.Faulty RangeError)) home d d f f (whole home z >>= is_value)
   whole-far z h = (
     λ k. Passes-by d f ((whole home z >>= is_value) k) (goes_with home d (c.Faulty RangeError) k)
-        (λ log. ap (λ (b : Bool). let p : Does Val = if b then give (Whole z) else range_error home in (p >>= is_value) k (Image d log)) h),
+        (λ log. ap (λ (b : Bool). let p : Does Val = if b then give (Whole z) else range_error home in
+        (p >>= is_value) k (Image d log)) h),
     tt,
   )
 

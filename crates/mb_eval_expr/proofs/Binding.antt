@@ -2,7 +2,6 @@
 use Rattle.mb_base.specs.declared.value.ScopeId.{ScopeId}
 use Rattle.mb_base.specs.declared.value.Side.{Side}
 use Rattle.mb_base.specs.declared.value.Value.{Value}
-use Rattle.mb_eval_expr.proofs.Keeping.{All-first, All-second}
 use Rattle.mb_frames.proofs.Readying.{scope-written}
 use Rattle.mb_frames.specs.Held.{HeldValue}
 use Rattle.mb_frames.specs.Ready.{Changed, IsReady, MayHold}
@@ -19,6 +18,7 @@ use Rattle.std.proofs.lemmas.List.Elements.{All-append, All-cons, All-head, All-
 use Rattle.std.proofs.lemmas.Map.Keys.{IsDistinct-cons, IsDistinct-head, IsDistinct-tail}
 use Rattle.std.specs.List.{AllByRecursion, IsDistinct, flat_map}
 use Rattle.std.specs.Prelude.{All, IfSome}
+use Rattle.mb_frames.proofs.Parts.{left-part, right-part}
 
 -- ---- lists of lists
 
@@ -27,16 +27,16 @@ module _ {A B : Type 0} (P : B → Type 0) (f : A → List B) where
   flat-at [] i x e h = cc
   flat-at (y ∷ ys) zero x e h =
       let q : y ≡ x = cc in
-      subst (λ z. All P (f z)) q (All-first P (f y) (flat_map f ys) h)
-  flat-at (y ∷ ys) (suc i) x e h = flat-at ys i x e (All-second P (f y) (flat_map f ys) h)
+      subst (λ z. All P (f z)) q (left-part P (f y) (flat_map f ys) h)
+  flat-at (y ∷ ys) (suc i) x e h = flat-at ys i x e (right-part P (f y) (flat_map f ys) h)
 
   flat-set : (xs : List A) (i : ℕ) (y : A) → All P (f y) → All P (flat_map f xs) → All P (flat_map f (slice_set xs i y))
   flat-set [] i y k h = h
   flat-set (x ∷ xs) zero y k h =
-      All-append P (f y) (flat_map f xs) k (All-second P (f x) (flat_map f xs) h)
+      All-append P (f y) (flat_map f xs) k (right-part P (f x) (flat_map f xs) h)
   flat-set (x ∷ xs) (suc i) y k h =
-      All-append P (f x) (flat_map f (slice_set xs i y)) (All-first P (f x) (flat_map f xs) h)
-      (flat-set xs i y k (All-second P (f x) (flat_map f xs) h))
+      All-append P (f x) (flat_map f (slice_set xs i y)) (left-part P (f x) (flat_map f xs) h)
+      (flat-set xs i y k (right-part P (f x) (flat_map f xs) h))
 
 -- ---- names
 

@@ -91,7 +91,8 @@ units-gt [] [] = refl
 units-gt [] (b ∷ y) = refl
 units-gt (a ∷ x) [] = refl
 units-gt (a ∷ x) (b ∷ y) =
-    by (nat_lt a b) refl (nat_eq a b) refl (slice_cmp nat_cmp x y) ∙ ap (λ r. nat_lt b a || (nat_eq b a && r)) (units-gt x y)
+    by (nat_lt a b) refl (nat_eq a b) refl (slice_cmp nat_cmp x y) ∙ ap (λ r. nat_lt b a || (nat_eq b a && r))
+    (units-gt x y)
   where
     by : (p : Bool) → nat_lt a b ≡ p → (q : Bool) → nat_eq a b ≡ q → (r : Ordering)
         → is_gt (ordering_then (cond (nat_lt a b) o.Less (cond (nat_eq a b) o.Equal o.Greater)) r)
@@ -119,8 +120,11 @@ module _ (h : Ordering → Bool) (F : ℤ → ℤ → Bool) (G : List ℕ → Li
     (wholes : (a b : ℤ) → h (int_cmp a b) ≡ F a b) (texts : (x y : List ℕ) → h (slice_cmp nat_cmp x y) ≡ G x y)
     (s : ℕ) (d : Data) (f : ℕ) where
   truly : (p q : Bool) → p ≡ q → Computes (Ok (c.Value (v.Bool p))) s d d f f (truth q)
-  truly p q e =
-      (λ k. Passes-by d f (truth q k) (goes_with s d (c.Value (v.Bool p)) k) (λ log. ap (λ b. truth b k (Image d log)) (sym e)), tt)
+  truly p q e = (
+    λ k. Passes-by d f (truth q k) (goes_with s d (c.Value (v.Bool p)) k)
+        (λ log. ap (λ b. truth b k (Image d log)) (sym e)),
+    tt,
+  )
 
   wrongly : Computes (Ok (c.Faulty TypeError)) s d d f f (type_error s)
   wrongly = (λ k. Passes-by d f (type_error s k) (goes_with s d (c.Faulty TypeError) k) (λ log. refl), tt)

@@ -1,15 +1,14 @@
 -- Objects that are made: each is the last of the graph, and what a side needs is there still.
 use Rattle.std.proofs.Common.{◌++◌, ◌<◌, ◌≡◌, ◌∙◌, ◌∷◌, Bool, List, None, Option, Some, [], ap, arith, cond, false, length, length-append, nat_eq, nat_lt, refl, slice_get, sym, true, true≢false, ℕ}
 use Rattle.std.specs.List.{position_or_len}
-use Rattle.std.specs.Prelude.{codes, is_some, map, option_map, pos, position}
+use Rattle.std.specs.Prelude.{is_some, option_map, position}
 use Rattle.std.proofs.lemmas.Bool.Decides.{nat_tests}
 use Rattle.std.proofs.lemmas.List.Folds.{position_or_len_push}
 use Rattle.mb_base.specs.declared.value.ObjId.{ObjId}
 use Rattle.mb_base.specs.declared.value.Side.{Side}
 use Rattle.mb_base.specs.declared.value.StrId.{StrId}
 use Rattle.mb_base.specs.declared.value.Value.{Value}
-use Rattle.mb_desc.specs.declared.descriptor.Full.TheVariants.{Datum}
-use Rattle.mb_eval_expr.specs.machine.Standing.{Acts}
+use Rattle.mb_parts.specs.Standing.{Acts}
 use Rattle.mb_frames.proofs.Entries.{entries-grow}
 use Rattle.mb_frames.proofs.Forms.{CanRun-grows}
 use Rattle.mb_frames.specs.Going.{WentOn}
@@ -22,17 +21,16 @@ use Rattle.mb_frames.specs.Making.{HasPrototypes}
 use Rattle.mb_frames.specs.Stepping.{Grew}
 use Rattle.mb_frames.specs.Wholeness.{IsOfKind}
 use Rattle.mb_model.specs.Operations.Makings.{array_thing}
-use Rattle.mb_model.specs.Writing.{Row, make, with_object}
+use Rattle.mb_model.specs.Writing.{make, with_object}
 use Rattle.mb_world.proofs.AfterCalls.{of-made}
 use Rattle.mb_world.proofs.Arrays.{length-there}
-use Rattle.mb_world.specs.Data.{Data, built_in_of, cell_at, is_counted, kind_stand, length_id, length_key, length_units, made, new_cell, obj_id, serves}
-use Rattle.mb_world.specs.Graph.{Array, Graph, Item, Plain, Thing}
-use Rattle.mb_world.specs.Ids.{HasItsIds, KindIn, ValueIn}
+use Rattle.mb_world.specs.Data.{Data, built_in_of, is_counted, kind_stand, length_units, made, new_cell, obj_id, serves}
+use Rattle.mb_world.specs.Graph.{Plain, Thing}
+use Rattle.mb_world.specs.Ids.{HasItsIds, KindIn}
 use Rattle.mb_world.specs.Image.{Image, Resolve, names_of, object_in, thing_in}
-use Rattle.mb_world.specs.Key.{Named}
 use Rattle.mb_world.specs.Laws.{OfObject}
 use Rattle.mb_world.specs.Objects.{new_thing}
-use Rattle.mb_world.specs.Value.{Object, Val}
+use Rattle.mb_world.specs.Value.{Val}
 use Rattle.mb_world.specs.declared.cell.CellKind.{CellKind}
 use Rattle.mb_world.specs.declared.cell.CellKind.TheVariants as kind
 
@@ -90,7 +88,8 @@ module _ (d d' : Data) (home : Side) (k : CellKind) (proto : Value) (label : Opt
   pub made-of-kind : IsOfKind d' home k id
   made-of-kind = rw (same, number, last-there d.cells (new_cell d.texts home k proto label)) (refl, refl)
 
-  pub made-went : (t : Thing) → thing_in (names_of (made d home k proto label)) (new_cell d.texts home k proto label) ≡ t
+  pub made-went : (t : Thing) → thing_in (names_of (made d home k proto label)) (new_cell d.texts home k proto label)
+      ≡ t
       → WentOn Val d d' 0 0 (make t) (object_in (names_of d') id)
   made-went t e =
       let u : id ≡ obj_id (length d.cells) = ap obj_id number in

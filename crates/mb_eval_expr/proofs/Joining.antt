@@ -12,7 +12,7 @@ use Rattle.mb_eval_expr.specs.declared.computing.Computed.{Computed}
 use Rattle.mb_eval_expr.specs.declared.computing.Computed.TheVariants as c
 use Rattle.mb_eval_expr.specs.machine.Computing.{Computes, ValueOf, goes_with, is_arithmetic}
 use Rattle.mb_frames.specs.Passing.{Part, Passes, TextsGrew}
-use Rattle.mb_eval_expr.specs.machine.Standing.{ContextIn}
+use Rattle.mb_parts.specs.Standing.{ContextIn}
 use Rattle.mb_frames.proofs.Agreeing.{expr-agrees, grown-agree}
 use Rattle.mb_frames.specs.Grammatical.{asks_objects}
 use Rattle.mb_frames.specs.Held.{AreIn}
@@ -98,16 +98,20 @@ module _ (s : ℕ) (d d1 : Data) (t : TextsGrew d d1) (f : ℕ) (a b : Value) wh
       let A = Resolve (names_of d) a in
       let B = Resolve (names_of d) b in (
         λ k. Passes-texts d d1 f (joined s A B k) (goes_with s d1 (c.Faulty TypeError) k) t
-            (λ log. ap (λ o. (or_type_error s o >>= (λ x. text_by s B >>= (λ y. join_texts s x y >>= is_value))) k (Image d log)) (sym e)),
+            (λ log. ap (λ o. (or_type_error s o >>= (λ x. text_by s B >>= (λ y. join_texts s x y >>= is_value))) k
+            (Image d log)) (sym e)),
         tt,
       )
 
   module _ (d2 : Data) (u : TextsGrew d1 d2) (h : ValueIn d b) (x : StrId) (w : TextIn d1 x)
       (known : Some (text_in (names_of d1) x) ≡ to_text (Resolve (names_of d) a)) where
-    left-known : (k : Answer → Graph → Row) (log : List Item) → joined s (Resolve (names_of d) a) (Resolve (names_of d) b) k (Image d log)
-        ≡ (text_by s (Resolve (names_of d) b) >>= (λ y. join_texts s (text_in (names_of d2) x) y >>= is_value)) k (Image d log)
+    left-known : (k : Answer → Graph → Row) (log : List Item) → joined s (Resolve (names_of d) a)
+        (Resolve (names_of d) b) k (Image d log)
+        ≡ (text_by s (Resolve (names_of d) b) >>= (λ y. join_texts s (text_in (names_of d2) x) y >>= is_value)) k
+        (Image d log)
     left-known k log =
-        ap (λ o. (or_type_error s o >>= (λ z. text_by s (Resolve (names_of d) b) >>= (λ y. join_texts s z y >>= is_value))) k (Image d log))
+        ap (λ o. (or_type_error s o >>= (λ z. text_by s (Resolve (names_of d) b) >>=
+        (λ y. join_texts s z y >>= is_value))) k (Image d log))
         (known-then d1 d2 x (to_text (Resolve (names_of d) a)) u w known)
 
     right-known : (o : Option (List ℕ)) → o ≡ to_text (Resolve (names_of d1) b) → to_text (Resolve (names_of d) b) ≡ o
@@ -117,10 +121,12 @@ module _ (s : ℕ) (d d1 : Data) (t : TextsGrew d d1) (f : ℕ) (a b : Value) wh
     pub Computes-no-right : None ≡ to_text (Resolve (names_of d1) b)
         → Computes (Ok (c.Faulty TypeError)) s d d2 f f (joined s (Resolve (names_of d) a) (Resolve (names_of d) b))
     Computes-no-right e = (
-      λ k. Passes-texts d d2 f (joined s (Resolve (names_of d) a) (Resolve (names_of d) b) k) (goes_with s d2 (c.Faulty TypeError) k)
+      λ k. Passes-texts d d2 f (joined s (Resolve (names_of d) a) (Resolve (names_of d) b) k)
+          (goes_with s d2 (c.Faulty TypeError) k)
           (TextsGrew-then d d1 d2 t u)
           (λ log. left-known k log
-          ∙ ap (λ o. (or_type_error s o >>= (λ y. join_texts s (text_in (names_of d2) x) y >>= is_value)) k (Image d log)) (right-known None e)),
+          ∙ ap (λ o. (or_type_error s o >>= (λ y. join_texts s (text_in (names_of d2) x) y >>= is_value)) k
+          (Image d log)) (right-known None e)),
       tt,
     )
 
@@ -164,14 +170,17 @@ module _ (s : ℕ) (d : Data) (f : ℕ) (x y : List ℕ) where
         → Computes (Err SpentHalt) s d d f f (join_texts s x y >>= is_value)
     Computes-unpaid h =
         Computes-by (Err SpentHalt) s d d f f whole-row (join_charged x y >>= is_value) short-row
-        (λ k. Part-unpaid (record { 0 = s }) d ((length x + length y) / 64) f (λ g. k (ValueAnswer (Text (x ++ y))) g) h)
+        (λ k. Part-unpaid (record { 0 = s }) d ((length x + length y) / 64) f
+        (λ g. k (ValueAnswer (Text (x ++ y))) g) h)
 
-    pub Computes-text : (d' : Data) (f' : ℕ) (z : StrId) → f' + (length x + length y) / 64 ≡ f → TextsGrew d d' → TextIn d' z
+    pub Computes-text : (d' : Data) (f' : ℕ) (z : StrId) → f' + (length x + length y) / 64 ≡ f → TextsGrew d d'
+        → TextIn d' z
         → text_in (names_of d') z ≡ x ++ y
         → Computes (Ok (c.Value (v.Text z))) s d d' f f' (join_texts s x y >>= is_value)
     Computes-text d' f' z paid t h e =
         Computes-by (Ok (c.Value (v.Text z))) s d d' f f' whole-row (join_charged x y >>= is_value) short-row (
-          λ k. Passes-then d d d' f f' f' ((join_charged x y >>= is_value) k) (k (ValueAnswer (Text (x ++ y)))) (goes_with s d' (c.Value (v.Text z)) k)
+          λ k. Passes-then d d d' f f' f' ((join_charged x y >>= is_value) k) (k (ValueAnswer (Text (x ++ y))))
+              (goes_with s d' (c.Value (v.Text z)) k)
               (Passes-paid d ((length x + length y) / 64) f f' (k (ValueAnswer (Text (x ++ y)))) paid)
               (Passes-texts d d' f' (k (ValueAnswer (Text (x ++ y)))) (goes_with s d' (c.Value (v.Text z)) k) t
               (λ log. ap (λ ts. k (ValueAnswer (Text ts)) (Image d log)) (sym e))),
@@ -202,7 +211,8 @@ sum-whole s z (Whole y) h i = cc
 sum-whole s z (Text y) h i = absurd (true≢false i)
 sum-whole s z _ h i = refl
 
-pub sum-none : (s : ℕ) (a b : Val) → whole_of a ≡ None → is_text a ≡ false → is_text b ≡ false → sum s a b ≡ type_error s
+pub sum-none : (s : ℕ) (a b : Val) → whole_of a ≡ None → is_text a ≡ false → is_text b ≡ false
+    → sum s a b ≡ type_error s
 sum-none s (Whole z) b h i j = cc
 sum-none s (Text x) b h i j = absurd (true≢false i)
 sum-none s a (Text y) h i j = absurd (true≢false j)
@@ -214,7 +224,8 @@ wholes-left : (s : ℕ) (g : ℤ → ℤ → Does Answer) (a b : Val) → whole_
 wholes-left s g (Whole z) b h = cc
 wholes-left s g _ b h = refl
 
-wholes-right : (s : ℕ) (g : ℤ → ℤ → Does Answer) (z : ℤ) (b : Val) → whole_of b ≡ None → wholes s g (Whole z) b ≡ type_error s
+wholes-right : (s : ℕ) (g : ℤ → ℤ → Does Answer) (z : ℤ) (b : Val) → whole_of b ≡ None → wholes s g (Whole z) b
+    ≡ type_error s
 wholes-right s g z (Whole y) h = cc
 wholes-right s g z _ h = refl
 
@@ -247,7 +258,8 @@ pub put-grows : (d d' : Data) (home : Side) → TextsGrew d d' → (at : Context
     → put_and_give (context_in (names_of d') home.0 at) (reference_in (names_of d') to) y y
     ≡ put_and_give (context_in (names_of d) home.0 at) (reference_in (names_of d) to) y y
 put-grows d d' home t at to a h y =
-    expr-agrees d (names_of d) (names_of d') (grown-agree d d' t.becomes.grows) home.0 (forms_at d home) (e.AssignValue at to)
+    expr-agrees d (names_of d) (names_of d') (grown-agree d d' t.becomes.grows) home.0 (forms_at d home)
+    (e.AssignValue at to)
     (a.0, (a.1, h)) (ValueAnswer y)
 
 pub no-objects : (sign : Sign) → (sign ≡ In → ⊥) → (sign ≡ Instanceof → ⊥) → asks_objects sign ≡ false
@@ -255,7 +267,8 @@ no-objects In h i = absurd (h refl)
 no-objects Instanceof h i = absurd (i refl)
 no-objects _ h i = refl
 
-pub no-arithmetic : (sign : Sign) → is_arithmetic sign ≡ true → (sign ≡ Minus → ⊥) → (sign ≡ Times → ⊥) → (sign ≡ Slash → ⊥)
+pub no-arithmetic : (sign : Sign) → is_arithmetic sign ≡ true → (sign ≡ Minus → ⊥) → (sign ≡ Times → ⊥)
+    → (sign ≡ Slash → ⊥)
     → (sign ≡ Percent → ⊥) → ⊥
 no-arithmetic Minus h i j k l = i refl
 no-arithmetic Times h i j k l = j refl

@@ -31,7 +31,8 @@ position-map : {A B : Type 0} (p : B → Bool) (q : A → Bool) (g : A → B) (P
 position-map p q g P e xs h = rw (place-map p q g P e xs h, length-map xs g) refl
 
 module _ (d : Data) (distinct : AreDistinct d.texts) (x : StrId) (h : TextIn d x) where
-  name-same : (b : Bound) → BoundIn d b → same_units (text_in (names_of d) b.name) (text_in (names_of d) x) ≡ has_name x b
+  name-same : (b : Bound) → BoundIn d b → same_units (text_in (names_of d) b.name) (text_in (names_of d) x)
+      ≡ has_name x b
   name-same b k = by (has_name x b) refl (same_units (text_in (names_of d) b.name) (text_in (names_of d) x)) refl
     where
       by : (p : Bool) → has_name x b ≡ p → (q : Bool)
@@ -42,7 +43,8 @@ module _ (d : Data) (distinct : AreDistinct d.texts) (x : StrId) (h : TextIn d x
       by true e false f =
           let i : x.0 ≡ b.name.0 = eqb-true x.0 b.name.0 e in
           let j : x ≡ b.name = ap (λ n. let id : StrId = record { 0 = n } in id) i in
-          absurd (true≢false (sym (units-same (text_in (names_of d) b.name)) ∙ ap (λ t. same_units (text_in (names_of d) b.name) (text_in (names_of d) t)) (sym j) ∙ f))
+          absurd (true≢false (sym (units-same (text_in (names_of d) b.name)) ∙ ap
+          (λ t. same_units (text_in (names_of d) b.name) (text_in (names_of d) t)) (sym j) ∙ f))
       by false e true f =
           let t : text_at d.texts b.name ≡ text_at d.texts x
           = units-equal (text_in (names_of d) b.name) (text_in (names_of d) x) f in
@@ -51,9 +53,11 @@ module _ (d : Data) (distinct : AreDistinct d.texts) (x : StrId) (h : TextIn d x
 
   -- where a scope binds the name
   pub place-same : (names : List Bound) → All (BoundIn d) names
-      → position (λ b. same_units b.name (text_in (names_of d) x)) (map (binding_in (names_of d)) names) ≡ position (has_name x) names
+      → position (λ b. same_units b.name (text_in (names_of d) x)) (map (binding_in (names_of d)) names) ≡ position
+      (has_name x) names
   place-same names k =
-      position-map (λ b. same_units b.name (text_in (names_of d) x)) (has_name x) (binding_in (names_of d)) (BoundIn d) name-same names k
+      position-map (λ b. same_units b.name (text_in (names_of d) x)) (has_name x) (binding_in (names_of d))
+      (BoundIn d) name-same names k
 
   -- a search goes on from a scope
   pub found-here : (at : ScopeId) (s : Scope) (n : ℕ) → scope_at d at ≡ Some s → ScopeOf d s → (log : List Item)
@@ -70,7 +74,8 @@ module _ (d : Data) (distinct : AreDistinct d.texts) (x : StrId) (h : TextIn d x
 pub binding-is : (d : Data) (at : ScopeId) (s : Scope) (place : ℕ) → scope_at d at ≡ Some s → (log : List Item)
     → binding_at (Image d log) (Some (at.0, place)) ≡ option_map (binding_in (names_of d)) (slice_get s.names place)
 binding-is d at s place e log =
-    ap (bound_in place) (slice_get-map (scope_in (names_of d)) d.scopes at.0 ∙ ap (option_map (scope_in (names_of d))) e)
+    ap (bound_in place) (slice_get-map (scope_in (names_of d)) d.scopes at.0 ∙ ap
+    (option_map (scope_in (names_of d))) e)
     ∙ slice_get-map (binding_in (names_of d)) s.names place
 
 pub at-place : {A : Type 0} (P : A → Type 0) (xs : List A) (i : ℕ) → All P xs → IfSome (slice_get xs i) P
@@ -78,6 +83,7 @@ at-place P [] i h = tt
 at-place P (x ∷ xs) zero h = All-head P x xs h
 at-place P (x ∷ xs) (suc i) h = at-place P xs i (All-tail P x xs h)
 
-pub bound-value : (d : Data) (b : Option Bound) → option_map (Resolve (names_of d)) (given_to b) ≡ bound_to (option_map (binding_in (names_of d)) b)
+pub bound-value : (d : Data) (b : Option Bound) → option_map (Resolve (names_of d)) (given_to b) ≡ bound_to
+    (option_map (binding_in (names_of d)) b)
 bound-value d None = refl
 bound-value d (Some b) = refl

@@ -9,14 +9,14 @@ use Rattle.mb_base.specs.declared.value.Side.{Side}
 use Rattle.mb_base.specs.declared.value.Value.{Value}
 use Rattle.mb_base.specs.declared.value.Value.TheVariants as v
 use Rattle.mb_frames.proofs.Forms.{forms-grow}
-use Rattle.mb_eval_expr.proofs.Writing.{Grew-texts}
+use Rattle.mb_parts.proofs.Writing.{Grew-texts}
 use Rattle.mb_eval_expr.specs.machine.Names.{unit_found}
 use Rattle.mb_frames.proofs.Agreeing.{expr-agrees, grown-agree}
-use Rattle.mb_frames.proofs.Passed.{Part-by, Part-sure, Part-passed, Passes-texts}
+use Rattle.mb_frames.proofs.Passed.{Part-by, Part-sure}
 use Rattle.mb_eval_expr.specs.declared.uses.Use.{Use}
 use Rattle.mb_eval_expr.specs.declared.uses.Use.TheVariants as u
 use Rattle.mb_frames.specs.Passing.{Part, TextsGrew}
-use Rattle.mb_eval_expr.specs.machine.Standing.{ContextIn}
+use Rattle.mb_parts.specs.Standing.{ContextIn}
 use Rattle.mb_eval_expr.specs.machine.Uses.{UseIn, use_frame, used}
 use Rattle.mb_frames.proofs.Steps.{Sure-wait}
 use Rattle.mb_frames.specs.Held.{AreIn, HeldIn}
@@ -118,7 +118,8 @@ module _ (home : Side) (d : Data) (f : ℕ) where
       (Sure-wait home d (x.Expr (use_frame next)) ask
       ((getv home.0 (object_in n object) (key_in n key) >>= used d home next) finished)
       (λ q. pass q (λ a. used d home next (value_in a) finished))
-      (λ log. ap (λ (p : Does Val). (p >>= used d home next) finished (Image d log)) (getv-object home.0 n object (key_in n key)))
+      (λ log. ap (λ (p : Does Val). (p >>= used d home next) finished (Image d log))
+      (getv-object home.0 n object (key_in n key)))
       tt
       (λ q g. pass-by q (λ a. used d home next (value_in a) finished)
       (λ a. expr_rest n (forms_at d home) home.0 (use_frame next) a finished) g
@@ -130,16 +131,19 @@ module _ (home : Side) (d : Data) (f : ℕ) where
       → task ≡ t.Perform (m.Set key y (v.Object object)) object home true
       → ObjIn d object → KeyIn d key → ValueIn d y → ValueIn d gives
       → Part home (Ok (move.Wait (x.Expr (e.Put gives)) task)) d d f f
-      (put_and_give (context_in (names_of d) home.0 at) (ToPlace (object_in (names_of d) object) (key_in (names_of d) key))
+      (put_and_give (context_in (names_of d) home.0 at) (ToPlace (object_in (names_of d) object)
+      (key_in (names_of d) key))
       (Resolve (names_of d) y) (Resolve (names_of d) gives) finished)
   Part-put at object key y gives task j o k h i =
       let n = names_of d in
       let ask : Task = t.Perform (m.Set key y (v.Object object)) object home true in
       rw j (Part-sure home d f _ _
       (Sure-wait home d (x.Expr (e.Put gives)) ask
-      (put_and_give (context_in n home.0 at) (ToPlace (object_in n object) (key_in n key)) (Resolve n y) (Resolve n gives) finished)
+      (put_and_give (context_in n home.0 at) (ToPlace (object_in n object) (key_in n key)) (Resolve n y)
+      (Resolve n gives) finished)
       _
-      (λ log. ap (λ b. let p : Does Answer = if b then set_in home.0 (object_in n object) (key_in n key) (Resolve n y) else type_error home.0 in
+      (λ log. ap (λ b. let p : Does Answer = if b then set_in home.0 (object_in n object) (key_in n key)
+      (Resolve n y) else type_error home.0 in
       (p >>= (λ a. is_value (Resolve n gives))) finished (Image d log)) (object-is n object))
       tt (λ q g. refl)
       (i, (o, (k, (h, (o, tt)))))))
@@ -153,7 +157,8 @@ module _ (home : Side) (d : Data) (f : ℕ) where
   Part-refused r d' at base y gives key h s =
       let n = names_of d in
       Part-by home r d d' f f _ (type_error home.0 finished)
-      (λ log. ap (λ b. let p : Does Answer = if b then set_in home.0 (Resolve n base) key (Resolve n y) else type_error home.0 in
+      (λ log. ap (λ b. let p : Does Answer = if b then set_in home.0 (Resolve n base) key
+      (Resolve n y) else type_error home.0 in
       (p >>= (λ a. is_value (Resolve n gives))) finished (Image d log)) (no-object n base h)) s
 
 pub resolve-either : (n : Names) (b : Bool) (a c : Value)
@@ -169,11 +174,14 @@ value-either d false a c h k = k
 pub used-grows : (d d' : Data) (home : Side) → HasItsIds d → TextsGrew d d' → (next : Use) → UseIn d next → (y : Val)
     → used d' home next y ≡ used d home next y
 used-grows d d' home i t next h y =
-    ap (λ fs. expr_rest (names_of d') fs home.0 (use_frame next) (ValueAnswer y)) (forms-grow d d' home i (Grew-texts d d' t))
-    ∙ expr-agrees d (names_of d) (names_of d') (grown-agree d d' t.becomes.grows) home.0 (forms_at d home) (use_frame next) h (ValueAnswer y)
+    ap (λ fs. expr_rest (names_of d') fs home.0 (use_frame next) (ValueAnswer y))
+    (forms-grow d d' home i (Grew-texts d d' t))
+    ∙ expr-agrees d (names_of d) (names_of d') (grown-agree d d' t.becomes.grows) home.0 (forms_at d home)
+    (use_frame next) h (ValueAnswer y)
 
 -- what a text has at a key
-pub text-unit : (units : List ℕ) (i : Option ℕ) (unit : ℕ) → unit_found units i ≡ Some unit → text_index units i ≡ Text (unit ∷ [])
+pub text-unit : (units : List ℕ) (i : Option ℕ) (unit : ℕ) → unit_found units i ≡ Some unit → text_index units i
+    ≡ Text (unit ∷ [])
 text-unit units None unit e = cc
 text-unit units (Some i) unit e = ap unit_at e
 
@@ -203,7 +211,8 @@ module _ (home : Side) (d : Data) (f : ℕ) where
   pub Part-deleted : (at : AContext) (object : ObjId) (key : Key) (task : Task)
       → task ≡ t.Perform (m.Delete key) object home true → ObjIn d object → KeyIn d key
       → Part home (Ok (move.Wait (x.Expr e.Deleted) task)) d d f f
-      (delete_reference (context_in (names_of d) home.0 at) (ToPlace (object_in (names_of d) object) (key_in (names_of d) key)) finished)
+      (delete_reference (context_in (names_of d) home.0 at) (ToPlace (object_in (names_of d) object)
+      (key_in (names_of d) key)) finished)
   Part-deleted at object key task j o k =
       let n = names_of d in
       let ask : Task = t.Perform (m.Delete key) object home true in
@@ -211,14 +220,16 @@ module _ (home : Side) (d : Data) (f : ℕ) where
       (Sure-wait home d (x.Expr e.Deleted) ask
       (delete_reference (context_in n home.0 at) (ToPlace (object_in n object) (key_in n key)) finished)
       _
-      (λ log. ap (λ b. let p : Does Answer = if b then delete_at home.0 (key_in n key) (object_in n object) else type_error home.0 in
+      (λ log. ap (λ b. let p : Does Answer = if b then delete_at home.0 (key_in n key)
+      (object_in n object) else type_error home.0 in
       p finished (Image d log)) (object-is n object))
       tt (λ q g. refl)
       (o, (k, tt))))
 
   pub Part-not-deleted : (r : Result Move Halt) (d' : Data) (at : AContext) (base : Value) (key : PropertyKey)
       → ((o : ObjId) → base ≡ v.Object o → ⊥) → Part home r d d' f f (type_error home.0 finished)
-      → Part home r d d' f f (delete_reference (context_in (names_of d) home.0 at) (ToPlace (Resolve (names_of d) base) key) finished)
+      → Part home r d d' f f (delete_reference (context_in (names_of d) home.0 at)
+      (ToPlace (Resolve (names_of d) base) key) finished)
   Part-not-deleted r d' at base key h s =
       let n = names_of d in
       Part-by home r d d' f f _ (type_error home.0 finished)

@@ -1,15 +1,16 @@
 -- Which frames are left once others were taken, and what they read of an answer.
-use Rattle.std.proofs.Common.{Bool, List, ap, false, refl, sym, true, true≢false, ℕ, ◌∙◌, ◌≡◌}
+use Rattle.std.proofs.Common.{List, refl, sym, true, true≢false, ℕ, ◌≡◌}
 use Rattle.mb_eval_expr.specs.machine.Resuming.{is_assigning, is_literal, takes_value}
 use Rattle.mb_frames.specs.Rest.Expressions.{expr_rest}
 use Rattle.mb_frames.specs.declared.expressions.ExprFrame.{ExprFrame}
 use Rattle.mb_frames.specs.declared.expressions.ExprFrame.TheVariants as e
 use Rattle.mb_model.specs.Task.{Answer, Value as ValueAnswer}
-use Rattle.mb_model.specs.Writing.{Does, value_in}
+use Rattle.mb_model.specs.Writing.{value_in}
 use Rattle.mb_world.specs.Form.{Form}
 use Rattle.mb_world.specs.Image.{Names}
 
-pub takes-is : (y : ExprFrame) → ((g : _) → y ≡ e.Put g → ⊥) → (y ≡ e.Deleted → ⊥) → (y ≡ e.Has → ⊥) → takes_value y ≡ true
+pub takes-is : (y : ExprFrame) → ((g : _) → y ≡ e.Put g → ⊥) → (y ≡ e.Deleted → ⊥) → (y ≡ e.Has → ⊥) → takes_value y
+    ≡ true
 takes-is (e.Put g) h i j = absurd (h g refl)
 takes-is e.Deleted h i j = absurd (i refl)
 takes-is e.Has h i j = absurd (j refl)
@@ -24,7 +25,8 @@ rest-value n fs s e.Has a h = absurd (true≢false (sym h))
 rest-value n fs s _ a h = refl
 
 pub assigning-is : (y : ExprFrame) → takes_value y ≡ true → (y ≡ e.Got → ⊥) → ((a b c : _) → y ≡ e.MemberBase a b c → ⊥)
-    → ((a b c : _) → y ≡ e.IndexBase a b c → ⊥) → ((a b c : _) → y ≡ e.IndexKey a b c → ⊥) → ((a b : _) → y ≡ e.Or a b → ⊥)
+    → ((a b c : _) → y ≡ e.IndexBase a b c → ⊥) → ((a b c : _) → y ≡ e.IndexKey a b c → ⊥)
+    → ((a b : _) → y ≡ e.Or a b → ⊥)
     → ((a b : _) → y ≡ e.And a b → ⊥) → ((a b c : _) → y ≡ e.Cond a b c → ⊥) → ((a b c : _) → y ≡ e.Seq a b c → ⊥)
     → (y ≡ e.Not → ⊥) → (y ≡ e.Negate → ⊥) → (y ≡ e.Typeof → ⊥) → ((a b c : _) → y ≡ e.Left a b c → ⊥)
     → ((a b : _) → y ≡ e.Right a b → ⊥) → ((a : _) → y ≡ e.InstancePrototype a → ⊥) → ((a : _) → y ≡ e.Chain a → ⊥)

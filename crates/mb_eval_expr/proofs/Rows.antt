@@ -1,6 +1,5 @@
 -- Rows of expressions as they begin.
-use Rattle.std.proofs.Common.{◌+◌, ◌<◌, Bool, Err, List, None, Ok, Option, Result, Some, ap, false, length, option_map, refl, slice_get, subst, suc, sym, [], ◌∷◌, true, true≢false, ℕ, ◌∙◌, ◌≡◌}
-use Rattle.std.specs.Prelude.{codes}
+use Rattle.std.proofs.Common.{◌+◌, ◌<◌, Err, List, None, Ok, Option, Result, Some, ap, length, refl, slice_get, suc, sym, [], ◌∷◌, true, true≢false, ℕ, ◌∙◌, ◌≡◌}
 use Rattle.mb_base.specs.declared.value.NodeId.{NodeId}
 use Rattle.mb_base.specs.declared.value.Side.{Side}
 use Rattle.mb_base.specs.declared.value.StrId.{StrId}
@@ -14,10 +13,10 @@ use Rattle.mb_eval_expr.specs.declared.targets.Target.{Target}
 use Rattle.mb_eval_expr.specs.declared.targets.Target.TheVariants as target
 use Rattle.mb_frames.specs.Told.{numbers_of, told_at}
 use Rattle.mb_world.specs.FormOf.{TreeNode, names_at}
-use Rattle.mb_frames.specs.Passing.{Part, Passes}
+use Rattle.mb_frames.specs.Passing.{Part}
 use Rattle.mb_eval_expr.specs.machine.Plain.{is_plain}
 use Rattle.mb_frames.specs.Kinds.{is_expression}
-use Rattle.mb_eval_expr.specs.machine.Standing.{ContextIn}
+use Rattle.mb_parts.specs.Standing.{ContextIn}
 use Rattle.mb_eval_expr.specs.machine.Targets.{IsOther, layers_at, targeted}
 use Rattle.mb_frames.proofs.Steps.{Sure-wait}
 use Rattle.mb_frames.specs.Held.{HeldIn}
@@ -65,7 +64,8 @@ module _ (home : Side) (d : Data) (at : AContext) where
       → Part home r d d' u u' (node_form (context_in (names_of d) home.0 at) node.0 form finished)
       → Part home r d d' u u' (row (task_in (names_of d) home.0 (t.Evaluate node at)))
   Part-node r d' u u' node form sides i s =
-      Part-by home r d d' u u' (row (task_in (names_of d) home.0 (t.Evaluate node at))) (node_form here node.0 form finished)
+      Part-by home r d d' u u' (row (task_in (names_of d) home.0 (t.Evaluate node at)))
+      (node_form here node.0 form finished)
       (λ log. ap (λ fs. node_if here node.0 (slice_get fs node.0) finished (Image d log)) (forms-are d home log sides)
       ∙ ap (λ o. node_if here node.0 o finished (Image d log)) i) s
 
@@ -79,7 +79,8 @@ module _ (home : Side) (d : Data) (at : AContext) where
   not-place callee ns (target.Index b k) o h i j = absurd (j b k refl)
   not-place callee ns target.Other o h i j = by o h
     where
-      by : (o : Option Form) → IsOther o → call_row here callee ns o ≡ (eval here callee >>= callee_got here ns Undefined)
+      by : (o : Option Form) → IsOther o → call_row here callee ns o ≡ (eval here callee >>= callee_got here ns
+          Undefined)
       by None h = refl
       by (Some (MemberForm b y)) h = absurd h
       by (Some (IndexForm b k)) h = absurd h
@@ -103,7 +104,8 @@ module _ (home : Side) (d : Data) (at : AContext) where
   Part-call r d' u u' node callee ns sides i s =
       Part-by home r d d' u u' (node_form here node.0 (CallForm callee.0 ns) finished)
       (call_row here callee.0 (parts_at (forms_at d home) node.0) (innermost (layers_at d home callee.0)) finished)
-      (λ log. ap (λ ls. call_row here callee.0 ns (innermost ls) finished (Image d log)) (layers-are d home callee.0 log sides)
+      (λ log. ap (λ ls. call_row here callee.0 ns (innermost ls) finished (Image d log))
+      (layers-are d home callee.0 log sides)
       ∙ ap (λ ms. call_row here callee.0 ms (innermost (layers_at d home callee.0)) finished (Image d log)) (sym i)) s
 
   -- ---- `typeof`
@@ -115,7 +117,8 @@ module _ (home : Side) (d : Data) (at : AContext) where
   pub Part-typeof : (r : Result Move Halt) (d' : Data) (u u' u'' : ℕ) (operand : ℕ) (text : List ℕ) → home.0 < d.sides
       → u' + length (layers_at d home operand) ≡ u → innermost (layers_at d home operand) ≡ Some (NameForm text)
       → Part home r d d' u' u'' ((look (λ i. find_binding i at.scope.0 text) >>= typeof_bound home.0) finished)
-      → Part home r d d' u u'' (typeof_of (context_in (names_of d) home.0 at) operand (innermost (layers_at d home operand)) finished)
+      → Part home r d d' u u'' (typeof_of (context_in (names_of d) home.0 at) operand
+      (innermost (layers_at d home operand)) finished)
   Part-typeof r d' u u' u'' operand text sides paid i s =
       let ls : List Form = layers_at d home operand in
       let p = typeof_of here operand (innermost ls) finished in
@@ -130,10 +133,12 @@ module _ (home : Side) (d : Data) (at : AContext) where
 
   pub Part-typeof-unpaid : (u : ℕ) (operand : ℕ) (text : List ℕ) → home.0 < d.sides
       → u < length (layers_at d home operand) → innermost (layers_at d home operand) ≡ Some (NameForm text)
-      → Part home (Err SpentHalt) d d u 0 (typeof_of (context_in (names_of d) home.0 at) operand (innermost (layers_at d home operand)) finished)
+      → Part home (Err SpentHalt) d d u 0 (typeof_of (context_in (names_of d) home.0 at) operand
+      (innermost (layers_at d home operand)) finished)
   Part-typeof-unpaid u operand text sides h i =
       let ls : List Form = layers_at d home operand in
-      Part-by home (Err SpentHalt) d d u 0 (typeof_of here operand (innermost ls) finished) (λ j. pay_each ls (λ a. named text finished) j)
+      Part-by home (Err SpentHalt) d d u 0 (typeof_of here operand (innermost ls) finished)
+      (λ j. pay_each ls (λ a. named text finished) j)
       (λ log. ap (λ o. typeof_of here operand o finished (Image d log)) i
       ∙ ap (λ ms. pay_each ms (λ a. named text finished) (Image d log)) (layers-are d home operand log sides))
       (Part-each home d ls u (λ a. named text finished) h)
@@ -154,16 +159,19 @@ module _ (home : Side) (d : Data) (at : AContext) where
       → Part home (Ok (move.Wait (x.Expr e.Typeof) (t.Evaluate operand at))) d d u u
       ((eval (context_in (names_of d) home.0 at) operand.0 >>= typeof_value) finished)
   Part-typeof-eval u operand a =
-      Part-sure home d u _ _ (Sure-wait home d (x.Expr e.Typeof) (t.Evaluate operand at) _ _ (λ log. refl) tt (λ q i. refl)
+      Part-sure home d u _ _ (Sure-wait home d (x.Expr e.Typeof) (t.Evaluate operand at) _ _ (λ log. refl) tt
+      (λ q i. refl)
       (a.0, (a.1, (tt, tt))))
 
   pub Part-typeof-row : (r : Result Move Halt) (d' : Data) (u u' : ℕ) (operand : NodeId) → home.0 < d.sides
-      → Part home r d d' u u' (typeof_of (context_in (names_of d) home.0 at) operand.0 (innermost (layers_at d home operand.0)) finished)
+      → Part home r d d' u u' (typeof_of (context_in (names_of d) home.0 at) operand.0
+      (innermost (layers_at d home operand.0)) finished)
       → Part home r d d' u u' (unary (context_in (names_of d) home.0 at) sign.Typeof operand.0 finished)
   Part-typeof-row r d' u u' operand sides s =
       Part-by home r d d' u u' (unary here sign.Typeof operand.0 finished)
       (typeof_of here operand.0 (innermost (layers_at d home operand.0)) finished)
-      (λ log. ap (λ ls. typeof_of here operand.0 (innermost ls) finished (Image d log)) (layers-are d home operand.0 log sides)) s
+      (λ log. ap (λ ls. typeof_of here operand.0 (innermost ls) finished (Image d log))
+      (layers-are d home operand.0 log sides)) s
 
   -- ---- other operators with one operand
 
@@ -178,7 +186,8 @@ module _ (home : Side) (d : Data) (at : AContext) where
       → Part home (Ok (move.Wait (x.Expr e.Negate) (t.Evaluate operand at))) d d u u
       (unary (context_in (names_of d) home.0 at) sign.Minus operand.0 finished)
   Part-minus u operand a =
-      Part-sure home d u _ _ (Sure-wait home d (x.Expr e.Negate) (t.Evaluate operand at) _ _ (λ log. refl) tt (λ q i. refl)
+      Part-sure home d u _ _ (Sure-wait home d (x.Expr e.Negate) (t.Evaluate operand at) _ _ (λ log. refl) tt
+      (λ q i. refl)
       (a.0, (a.1, (tt, tt))))
 
 pub other-unary : (c : Context) (n : ℕ) (y : Sign) → (y ≡ sign.Typeof → ⊥) → (y ≡ sign.Delete → ⊥) → (y ≡ sign.Not → ⊥)
@@ -192,9 +201,12 @@ other-unary c n _ h i j k = refl
 -- ---- what begins with one part, or with none
 
 pub plain-is : (d : Data) (home : Side) (form : Given) → is_expression (Some (told_at d home (seen form))) ≡ true
-    → ((n : _) → form ≡ g.Name n → ⊥) → ((a b : _) → form ≡ g.Assign a b → ⊥) → ((y a b : _) → form ≡ g.Compound y a b → ⊥)
-    → ((p q a : _) → form ≡ g.Update p q a → ⊥) → ((a ns : _) → form ≡ g.Call a ns → ⊥) → ((ns : _) → form ≡ g.Seq ns → ⊥)
-    → ((y a : _) → form ≡ g.Unary y a → ⊥) → ((ns : _) → form ≡ g.ArrayLit ns → ⊥) → ((ns : _) → form ≡ g.ObjectLit ns → ⊥)
+    → ((n : _) → form ≡ g.Name n → ⊥) → ((a b : _) → form ≡ g.Assign a b → ⊥)
+    → ((y a b : _) → form ≡ g.Compound y a b → ⊥)
+    → ((p q a : _) → form ≡ g.Update p q a → ⊥) → ((a ns : _) → form ≡ g.Call a ns → ⊥)
+    → ((ns : _) → form ≡ g.Seq ns → ⊥)
+    → ((y a : _) → form ≡ g.Unary y a → ⊥) → ((ns : _) → form ≡ g.ArrayLit ns → ⊥)
+    → ((ns : _) → form ≡ g.ObjectLit ns → ⊥)
     → ((y a : _) → form ≡ g.Function y a → ⊥) → ((y a : _) → form ≡ g.Arrow y a → ⊥) → is_plain (seen form) ≡ true
 plain-is d home g.This h i j k l m n o p q r t = refl
 plain-is d home (g.Number z) h i j k l m n o p q r t = refl

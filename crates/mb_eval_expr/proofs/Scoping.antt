@@ -1,40 +1,23 @@
 -- Scopes that are added and given names, in a world and in its image.
-use Rattle.std.proofs.Common.{◌&&◌, ◌+◌, ◌++◌, ◌<◌, ◌≡◌, ◌∙◌, ◌∷◌, Bool, List, None, Ok, Err, Option, Some, [], ap, arith, cond, false, length, length-append, map, nat_eq, nat_lt, option_map, refl, slice_get, slice_index_or, slice_set, subst, suc, sym, take, true, true≢false, zero, ℕ}
-use Rattle.std.specs.List.{position_or_len}
-use Rattle.std.specs.Prelude.{All, position}
-use Rattle.std.proofs.lemmas.Bool.{eq-eqb, eqb-true}
-use Rattle.std.proofs.lemmas.List.{length-map, map-set, take_more}
-use Rattle.std.proofs.lemmas.List.Elements.{All-filter, All-head, All-map, All-nil, All-tail, All-weaker}
-use Rattle.std.proofs.lemmas.Option.{get_or_from_slice_get, slice_get-get_or, slice_get-map, slice_get_within}
-use Rattle.mb_base.specs.declared.value.NodeId.{NodeId}
+use Rattle.std.proofs.Common.{◌≡◌, ◌∙◌, ◌∷◌, List, None, Ok, Some, [], ap, arith, length, length-append, nat_eq, refl, sym, true, ℕ, ◌<◌}
+use Rattle.std.specs.List.{IsDistinct}
+use Rattle.std.proofs.lemmas.List.Elements.{All-cons, All-nil}
 use Rattle.mb_base.specs.declared.value.ScopeId.{ScopeId}
 use Rattle.mb_base.specs.declared.value.Side.{Side}
 use Rattle.mb_base.specs.declared.value.StrId.{StrId}
-use Rattle.mb_base.specs.declared.value.Value.{Value}
-use Rattle.mb_frames.specs.declared.machine.Halt.{Halt}
-use Rattle.mb_frames.specs.declared.machine.Halt.TheVariants.{NoMemory, Spent as SpentHalt}
-use Rattle.mb_model.specs.Engine.{Pay}
-use Rattle.mb_frames.proofs.Steps.{Grew-same}
-use Rattle.mb_model.specs.Nodes.Scopes.{add_scope, bind_with, binding, bound_names, copy_of, copy_scope, enter_names, enter_scope, giving, initialize, names_if, names_of_node, or_above, own_place, scopes_with}
-use Rattle.mb_model.specs.Task.{Answer, Nothing}
-use Rattle.mb_model.specs.Writing.{Row, pay_each}
-use Rattle.mb_text.proofs.WithText.{one_place}
-use Rattle.mb_text.specs.Texts.{AreDistinct, text_at}
-use Rattle.mb_tree.specs.Names.{Binds, names_at}
-use Rattle.mb_world.proofs.AfterCalls.{of-changed-scope, of-scope}
-use Rattle.mb_world.specs.Data.{Data, Script, change_scope, give_at, give_if, given_value, giving as world-giving, has_name, program_of, scope_at, with_scope}
-use Rattle.mb_world.specs.Graph.{Binding, Graph, Item, ScopeName}
-use Rattle.mb_world.specs.Graph as graph
-use Rattle.mb_world.specs.Ids.{BoundIn, Maybe, ScopeIn, ScopeOf, ScriptIn, TextIn}
-use Rattle.mb_world.specs.Image.{Image, Names, Resolve, binding_in, name_in, names_of, program_in, scope_in, text_in}
-use Rattle.mb_world.specs.Value.{same_units}
+use Rattle.mb_model.specs.Nodes.Scopes.{add_scope, binding, initialize, code, scope}
+use Rattle.mb_model.specs.Task.{Answer}
+use Rattle.mb_model.specs.Writing.{◌>>=◌, Does, is_value}
+use Rattle.mb_world.proofs.AfterCalls.{of-scope}
+use Rattle.mb_world.specs.Data.{Data, with_scope}
+use Rattle.mb_world.specs.Ids.{BoundIn, ScopeIn, TextIn, HasItsIds, ObjIn, ScopeOf}
+use Rattle.mb_world.specs.Image.{Image, names_of, scope_in, text_in, object_in}
+use Rattle.mb_world.specs.Value.{Val}
 use Rattle.mb_world.specs.declared.scope.Bound.{Bound}
 use Rattle.mb_world.specs.declared.scope.Scope.{Scope}
-use Rattle.mb_frames.proofs.Forms.{All-at}
 use Rattle.mb_base.specs.declared.value.ObjId.{ObjId}
-use Rattle.mb_base.specs.declared.value.Value.TheVariants as v
 use Rattle.mb_eval_expr.specs.machine.Functions.{named_row}
-use Rattle.mb_eval_expr.specs.machine.Standing.{Acts}
+use Rattle.mb_parts.specs.Standing.{Acts}
 use Rattle.mb_frames.proofs.Forms.{CanRun-grows}
 use Rattle.mb_frames.proofs.Going.{Changes-passes, Makes-passes, WentOn-free, WentOn-passes}
 use Rattle.mb_frames.proofs.Passed.{Part-passed, Part-sure, Passes-by, Passes-then}
@@ -43,28 +26,21 @@ use Rattle.mb_frames.specs.Passing.{Part}
 use Rattle.mb_frames.specs.Stepping.{Grew, Sure}
 use Rattle.mb_frames.specs.declared.frame.Move.{Move}
 use Rattle.mb_model.specs.Meaning.{finished}
-use Rattle.mb_model.specs.Nodes.Scopes.{code, scope}
 use Rattle.mb_model.specs.Operations.Makings.{make_function}
-use Rattle.mb_model.specs.Writing.{◌>>=◌, Does, is_value}
 use Rattle.mb_world.proofs.Grow.{TextIn-grows}
 use Rattle.mb_world.proofs.Images.{value-grows}
-use Rattle.mb_world.specs.Ids.{HasItsIds, ObjIn}
-use Rattle.mb_world.specs.Image.{object_in}
-use Rattle.mb_world.specs.Value.{Val}
+use Rattle.mb_frames.proofs.Readying.{scope-changed}
+use Rattle.mb_frames.specs.Held.{HeldScope}
+use Rattle.mb_frames.specs.Ready.{IsReady, MayHold}
+use Rattle.mb_world.specs.Contained.{IsOwn}
+use Rattle.mb_world.specs.Formed.{FormedScope, InRange}
+use Rattle.mb_frames.specs.Keeping.{KeepsAnswer, scope_held}
+use Rattle.mb_world.specs.Graph as graph
+use Rattle.mb_base.specs.declared.value.Value.TheVariants as v
+use Rattle.mb_parts.proofs.Entered.{added-row}
+use Rattle.mb_parts.proofs.EnteredKept.{new-held}
 
 -- ---- a scope more
-
-scopes-count : (d : Data) (log : List Item) → length (Image d log).scopes ≡ length d.scopes
-scopes-count d log = length-map d.scopes (scope_in (names_of d))
-
--- a scope is added, and the row goes on with its number
-added-row : (d : Data) (s : Scope) (S : graph.Scope) (k : ℕ → Graph → Row) (log : List Item)
-    → S ≡ scope_in (names_of d) s
-    → add_scope S k (Image d log) ≡ k (length d.scopes) (Image (with_scope d s) log)
-added-row d s S k log e =
-    ap (λ n. k n (record (Image d log) { scopes = (Image d log).scopes ++ (S ∷ []) })) (scopes-count d log)
-    ∙ ap (λ (x : graph.Scope). k (length d.scopes) (record (Image d log) { scopes = (Image d log).scopes ++ (x ∷ []) })) e
-    ∙ ap (k (length d.scopes)) (sym ((of-scope d s).image log))
 
 pub scope-added : (d d' : Data) (s : Scope) (S : graph.Scope) (id : ScopeId) → S ≡ scope_in (names_of d) s
     → d' ≡ with_scope d s → id.0 ≡ length d.scopes → WentOn ℕ d d' 0 0 (add_scope S) id.0
@@ -75,151 +51,6 @@ scope-added d d' s S id e m i = rw m (record {
   trace = refl;
   grew = record { grows = (of-scope d s).grows; programs = refl; sides = refl; joined = refl };
 })
-
--- ---- a name is given
-
-both-true : (a b : Bool) → a && b ≡ true → (a ≡ true) × (b ≡ true)
-both-true true true h = (refl, refl)
-both-true true false h = absurd (true≢false (sym h))
-both-true false b h = absurd (true≢false (sym h))
-
-units-same : (x : List ℕ) → same_units x x ≡ true
-units-same [] = refl
-units-same (a ∷ x) = let h : nat_eq a a ≡ true = eq-eqb a a refl in rw (h, units-same x) refl
-
-units-equal : (x y : List ℕ) → same_units x y ≡ true → x ≡ y
-units-equal [] [] h = refl
-units-equal [] (b ∷ y) h = absurd (true≢false (sym h))
-units-equal (a ∷ x) [] h = absurd (true≢false (sym h))
-units-equal (a ∷ x) (b ∷ y) h =
-    let k = both-true (nat_eq a b) (same_units x y) h in
-    let e : a ≡ b = eqb-true a b k.0 in
-    let t : x ≡ y = units-equal x y k.1 in
-    cc
-
-module _ (d : Data) (distinct : AreDistinct d.texts) where
-  text-there : (t : StrId) → TextIn d t → slice_get d.texts t.0 ≡ Some (text_at d.texts t)
-  text-there t h = slice_get-get_or d.texts t.0 [] h
-
-  text-apart : (a b : StrId) → TextIn d a → TextIn d b → text_at d.texts a ≡ text_at d.texts b → a.0 ≡ b.0
-  text-apart a b h k e =
-      one_place d.texts a.0 b.0 (text_at d.texts a) distinct (text-there a h) (text-there b k ∙ ap Some (sym e))
-
-  same-name : (x : StrId) (b : Bound) → TextIn d x → TextIn d b.name
-      → same_units (text_at d.texts b.name) (text_at d.texts x) ≡ has_name x b
-  same-name x b h k = by (has_name x b) refl (same_units (text_at d.texts b.name) (text_at d.texts x)) refl
-    where
-      by : (t : Bool) → has_name x b ≡ t → (u : Bool)
-          → same_units (text_at d.texts b.name) (text_at d.texts x) ≡ u
-          → same_units (text_at d.texts b.name) (text_at d.texts x) ≡ has_name x b
-      by true e true g = g ∙ sym e
-      by false e false g = g ∙ sym e
-      by true e false g =
-          let z : x.0 ≡ b.name.0 = eqb-true x.0 b.name.0 e in
-          let y : text_at d.texts b.name ≡ text_at d.texts x = ap (λ n. slice_index_or d.texts n []) (sym z) in
-          absurd (true≢false (sym (ap (λ t. same_units t (text_at d.texts x)) y ∙ units-same (text_at d.texts x)) ∙ g))
-      by false e true g =
-          let z : b.name.0 ≡ x.0 = text-apart b.name x k h (units-equal (text_at d.texts b.name) (text_at d.texts x) g) in
-          absurd (true≢false (sym (eq-eqb x.0 b.name.0 (sym z)) ∙ e))
-
-  places-same : (x : StrId) (bs : List Bound) → TextIn d x → All (BoundIn d) bs
-      → position_or_len (λ (b : Binding). same_units b.name (text_at d.texts x)) (map (binding_in (names_of d)) bs)
-      ≡ position_or_len (has_name x) bs
-  places-same x [] h a = refl
-  places-same x (b ∷ bs) h a =
-      by (same_units (text_at d.texts b.name) (text_at d.texts x)) (has_name x b) refl refl
-      (same-name x b h (All-head (BoundIn d) b bs a).0) (places-same x bs h (All-tail (BoundIn d) b bs a))
-    where
-      by : (t u : Bool) → same_units (text_at d.texts b.name) (text_at d.texts x) ≡ t → has_name x b ≡ u
-          → same_units (text_at d.texts b.name) (text_at d.texts x) ≡ has_name x b
-          → position_or_len (λ (c : Binding). same_units c.name (text_at d.texts x)) (map (binding_in (names_of d)) bs)
-          ≡ position_or_len (has_name x) bs
-          → position_or_len (λ (c : Binding). same_units c.name (text_at d.texts x)) (map (binding_in (names_of d)) (b ∷ bs))
-          ≡ position_or_len (has_name x) (b ∷ bs)
-      by true true e g h ih = rw (e, g) refl
-      by false false e g h ih = rw (e, g) (ap (λ (n : ℕ). 1 + n) ih)
-      by true false e g h ih = absurd (true≢false (sym e ∙ h ∙ g))
-      by false true e g h ih = absurd (true≢false (sym g ∙ sym h ∙ e))
-
-  -- the place of a name in the world is that in the graph
-  pub place-same : (x : StrId) (bs : List Bound) → TextIn d x → All (BoundIn d) bs
-      → position (λ (b : Binding). same_units b.name (text_in (names_of d) x)) (map (binding_in (names_of d)) bs)
-      ≡ position (has_name x) bs
-  place-same x bs h a =
-      let m : ℕ = length (map (binding_in (names_of d)) bs) in
-      ap (λ (n : ℕ). cond (nat_lt n m) (Some n) None) (places-same x bs h a)
-      ∙ ap (λ (k : ℕ). cond (nat_lt (position_or_len (has_name x) bs) k) (Some (position_or_len (has_name x) bs)) None)
-      (length-map bs (binding_in (names_of d)))
-
-given-in : (n : Names) (place : ℕ) (x : Value) (bs : List Bound)
-    → map (binding_in n) (give_at place x bs)
-    ≡ bind_with (map (binding_in n) bs) place (slice_get (map (binding_in n) bs) place) (Resolve n x)
-given-in n place x bs = by (slice_get bs place) refl
-  where
-    by : (o : Option Bound) → slice_get bs place ≡ o
-        → map (binding_in n) (give_if place x bs o)
-        ≡ bind_with (map (binding_in n) bs) place (slice_get (map (binding_in n) bs) place) (Resolve n x)
-    by None e =
-        sym (ap (λ (o : Option Binding). bind_with (map (binding_in n) bs) place o (Resolve n x))
-        (slice_get-map (binding_in n) bs place ∙ ap (option_map (binding_in n)) e))
-    by (Some b) e =
-        map-set (binding_in n) bs place (given_value x b)
-        ∙ sym (ap (λ (o : Option Binding). bind_with (map (binding_in n) bs) place o (Resolve n x))
-        (slice_get-map (binding_in n) bs place ∙ ap (option_map (binding_in n)) e))
-
-scope-there : (d : Data) (id : ScopeId) (s : Scope) (log : List Item) → scope_at d id ≡ Some s
-    → slice_get (Image d log).scopes id.0 ≡ Some (scope_in (names_of d) s)
-scope-there d id s log e =
-    slice_get-map (scope_in (names_of d)) d.scopes id.0 ∙ ap (option_map (scope_in (names_of d))) e
-
-place-there : (d : Data) (id : ScopeId) (s : Scope) (x : StrId) (log : List Item) → AreDistinct d.texts → TextIn d x
-    → All (BoundIn d) s.names → scope_at d id ≡ Some s
-    → own_place id.0 (text_in (names_of d) x) (slice_get (Image d log).scopes id.0)
-    ≡ or_above id.0 (position (has_name x) s.names) None (λ p. None)
-place-there d id s x log a h b e =
-    ap (own_place id.0 (text_in (names_of d) x)) (scope-there d id s log e)
-    ∙ ap (λ (o : Option ℕ). or_above id.0 o None (λ p. None)) (place-same d a x s.names h b)
-
-given-image : (d : Data) (id : ScopeId) (s : Scope) (place : ℕ) (x : Value) (log : List Item) → scope_at d id ≡ Some s
-    → giving (Some (id.0, place)) (Resolve (names_of d) x) (Image d log)
-    ≡ Image (change_scope d id (world-giving place x)) log
-given-image d id s place x log e =
-    ap (λ (o : Option graph.Scope). let g : Graph = record (Image d log) { scopes = scopes_with (Image d log).scopes id.0 place o (Resolve (names_of d) x) } in g) (scope-there d id s log e)
-    ∙ ap (λ (bs : List Binding). let g : Graph = record (Image d log) { scopes = slice_set (Image d log).scopes id.0 (record (scope_in (names_of d) s) { bindings = bs }) } in g) (sym (given-in (names_of d) place x s.names))
-    ∙ sym ((of-changed-scope d id s (world-giving place x) e).image log)
-
-pub name-given : (d d' : Data) (id : ScopeId) (s : Scope) (x : StrId) (y : Value) (place : ℕ) → AreDistinct d.texts
-    → TextIn d x → All (BoundIn d) s.names → scope_at d id ≡ Some s → position (has_name x) s.names ≡ Some place
-    → d' ≡ change_scope d id (world-giving place y)
-    → WentOn Answer d d' 0 0 (initialize id.0 (text_in (names_of d) x) (Resolve (names_of d) y)) Nothing
-name-given d d' id s x y place a h b e p m = rw m (record {
-  units = 0;
-  paid = omega arith;
-  same = λ k log.
-      ap (λ (o : Option (ℕ × ℕ)). k Nothing (giving o (Resolve (names_of d) y) (Image d log)))
-      (place-there d id s x log a h b e ∙ ap (λ (o : Option ℕ). or_above id.0 o None (λ p. None)) p)
-      ∙ ap (k Nothing) (given-image d id s place y log e);
-  trace = rw e refl;
-  grew = record {
-    grows = (of-changed-scope d id s (world-giving place y) e).grows;
-    programs = rw e refl;
-    sides = rw e refl;
-    joined = rw e refl;
-  };
-})
-
-pub name-missing : (d : Data) (id : ScopeId) (s : Scope) (x : StrId) (y : Value) → AreDistinct d.texts → TextIn d x
-    → All (BoundIn d) s.names → scope_at d id ≡ Some s → position (has_name x) s.names ≡ None
-    → WentOn Answer d d 0 0 (initialize id.0 (text_in (names_of d) x) (Resolve (names_of d) y)) Nothing
-name-missing d id s x y a h b e p = record {
-  units = 0;
-  paid = omega arith;
-  same = λ k log.
-      ap (λ (o : Option (ℕ × ℕ)). k Nothing (giving o (Resolve (names_of d) y) (Image d log)))
-      (place-there d id s x log a h b e ∙ ap (λ (o : Option ℕ). or_above id.0 o None (λ p. None)) p);
-  trace = refl;
-  grew = Grew-same d;
-}
 
 -- ---- a scope more, and what there was
 
@@ -237,6 +68,38 @@ module _ (d d' : Data) (s : Scope) (same : d' ≡ with_scope d s) where
 
   pub scope-in : (id : ScopeId) → id.0 ≡ length d.scopes → ScopeIn d' id
   scope-in id e = rw (same, e) (omega (arith, length-append d.scopes (s ∷ [])))
+
+-- ---- a scope of one name
+
+distinct-one : (b : Bound) → IsDistinct (λ (p q : Bound). nat_eq p.name.0 q.name.0) (b ∷ [])
+unfolding IsDistinct
+distinct-one b = (tt, tt)
+
+-- a scope that binds one name, which isn't given yet
+pub scope-kept : (d d' : Data) (home : Side) (parent : ScopeId) (name : StrId) (names : List Bound) (id : ScopeId)
+    → IsReady d
+    → home.0 < d.sides → MayHold d home (HeldScope parent) → TextIn d name
+    → (let b : Bound = record { name = name; value = None; fixed = true } in names ≡ b ∷ []) → home.0 < 8
+    → (let s : Scope = record { home = home; parent = Some parent; names = names } in d' ≡ with_scope d s)
+    → id.0 ≡ length d.scopes → KeepsAnswer home scope_held (Ok id) d d'
+scope-kept d d' home parent name names id r i h t e o m k =
+    let b : Bound = record { name = name; value = None; fixed = true } in
+    let s : Scope = record { home = home; parent = Some parent; names = names } in
+    let f : FormedScope d (length d.scopes) s = record {
+      home = i;
+      wholes = rw e (All-nil InRange);
+      parent = (h.within, h.sound);
+      distinct = rw e (distinct-one b);
+    } in
+    let n : ScopeOf d s = record {
+      home_in = o;
+      parent_in = h.within;
+      names_in = rw e (All-cons (BoundIn d) b [] (t, tt) (All-nil (BoundIn d)));
+    } in
+    rw m (record {
+      changed = scope-changed home d r s refl n f (λ u. rw e (All-nil (IsOwn d home)));
+      holds = new-held d home s id refl k;
+    })
 
 -- ---- a named function expression
 
@@ -263,9 +126,11 @@ module _ (home : Side) (d d1 d2 d3 : Data) (f : ℕ) (id : ScopeId) (name : StrI
   abbrev rest : List ℕ → ℕ → Does Answer
   rest y sc = make_function (code home.0 node sc true None) (Some y) params y >>= given y sc
 
-  pub Part-named : WentOn ℕ d d1 0 0 (add_scope (scope home.0 (Some parent) (binding (text_in (names_of d) name) None true ∷ []))) id.0
+  pub Part-named : WentOn ℕ d d1 0 0
+      (add_scope (scope home.0 (Some parent) (binding (text_in (names_of d) name) None true ∷ []))) id.0
       → TextIn d name
-      → Makes (Ok made) d1 d2 (make_function (code home.0 node id.0 true None) (Some (text_in (names_of d1) name)) params (text_in (names_of d1) name))
+      → Makes (Ok made) d1 d2 (make_function (code home.0 node id.0 true None) (Some (text_in (names_of d1) name))
+      params (text_in (names_of d1) name))
       → Changes (Ok tt) d2 d3 (initialize id.0 (text_in (names_of d2) name) (object_in (names_of d2) made))
       → ObjIn d2 made → Sure home d3 (is_value (object_in (names_of d3) made) finished) step
       → Part home (Ok step) d d3 f f (named_row home.0 parent node params (text_in (names_of d) name) finished)
@@ -274,16 +139,22 @@ module _ (home : Side) (d d1 d2 d3 : Data) (f : ℕ) (id : ScopeId) (name : StrI
       let e2 : x2 ≡ x1 = q.grew.grows.same_text name (TextIn-grows d d1 p.grew.grows name t) in
       let e3 : v3 ≡ v2 = value-grows d2 d3 r.grew.grows (v.Object made) o in
       Part-passed home (Ok step) d d3 d3 f f f (named_row home.0 parent node params x finished) (is_value v3 finished)
-      (Passes-then d d1 d3 f f f (named_row home.0 parent node params x finished) (rest x id.0 finished) (is_value v3 finished)
-      (WentOn-passes ℕ d d1 f f (add_scope (scope home.0 (Some parent) (binding x None true ∷ []))) id.0 (λ sc. rest x sc finished)
+      (Passes-then d d1 d3 f f f (named_row home.0 parent node params x finished) (rest x id.0 finished)
+      (is_value v3 finished)
+      (WentOn-passes ℕ d d1 f f (add_scope (scope home.0 (Some parent) (binding x None true ∷ []))) id.0
+      (λ sc. rest x sc finished)
       (WentOn-free ℕ d d1 f (add_scope (scope home.0 (Some parent) (binding x None true ∷ []))) id.0 p))
       (Passes-then d1 d1 d3 f f f (rest x id.0 finished) (rest x1 id.0 finished) (is_value v3 finished)
-      (Passes-by d1 f (rest x id.0 finished) (rest x1 id.0 finished) (λ log. ap (λ y. rest y id.0 finished (Image d1 log)) (sym e1)))
+      (Passes-by d1 f (rest x id.0 finished) (rest x1 id.0 finished)
+      (λ log. ap (λ y. rest y id.0 finished (Image d1 log)) (sym e1)))
       (Passes-then d1 d2 d3 f f f (rest x1 id.0 finished) (given x1 id.0 v2 finished) (is_value v3 finished)
-      (Makes-passes d1 d2 f (make_function (code home.0 node id.0 true None) (Some x1) params x1) made (λ w. given x1 id.0 w finished) q)
+      (Makes-passes d1 d2 f (make_function (code home.0 node id.0 true None) (Some x1) params x1) made
+      (λ w. given x1 id.0 w finished) q)
       (Passes-then d2 d2 d3 f f f (given x1 id.0 v2 finished) (given x2 id.0 v2 finished) (is_value v3 finished)
-      (Passes-by d2 f (given x1 id.0 v2 finished) (given x2 id.0 v2 finished) (λ log. ap (λ y. given y id.0 v2 finished (Image d2 log)) (sym e2)))
+      (Passes-by d2 f (given x1 id.0 v2 finished) (given x2 id.0 v2 finished)
+      (λ log. ap (λ y. given y id.0 v2 finished (Image d2 log)) (sym e2)))
       (Passes-then d2 d3 d3 f f f (given x2 id.0 v2 finished) (is_value v2 finished) (is_value v3 finished)
       (Changes-passes d2 d3 f (initialize id.0 x2 v2) (λ b. is_value v2 finished) r)
-      (Passes-by d3 f (is_value v2 finished) (is_value v3 finished) (λ log. ap (λ w. is_value w finished (Image d3 log)) (sym e3))))))))
+      (Passes-by d3 f (is_value v2 finished) (is_value v3 finished)
+      (λ log. ap (λ w. is_value w finished (Image d3 log)) (sym e3))))))))
       (Part-sure home d3 f (is_value v3 finished) step s)

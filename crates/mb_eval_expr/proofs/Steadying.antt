@@ -1,25 +1,22 @@
 -- What a ready machine with an expression on top holds.
-use Rattle.std.proofs.Common.{◌++◌, ◌<◌, ◌≡◌, ◌∙◌, ◌∷◌, subst, List, None, Ok, Option, Some, [], slice_get, arith, refl, false, sym, true, true≢false, ℕ}
+use Rattle.std.proofs.Common.{◌++◌, ◌≡◌, ◌∙◌, ◌∷◌, subst, List, None, Ok, Option, Some, [], slice_get, refl, sym, true, true≢false, ℕ, Result}
 use Rattle.mb_base.specs.declared.value.Side.{Side}
 use Rattle.mb_base.specs.declared.value.Value.{Value}
 use Rattle.mb_base.specs.declared.value.Value.TheVariants as v
-use Rattle.mb_eval_expr.specs.Ours.{IsExpressionFrame, IsExpressionTask, IsGiven}
-use Rattle.mb_eval_expr.specs.machine.Resuming.{Takes, value_held}
-use Rattle.mb_eval_expr.specs.machine.Standing.{Acts}
+use Rattle.mb_eval_expr.specs.Ours.{IsExpressionFrame, IsExpressionTask}
+use Rattle.mb_eval_expr.specs.machine.Resuming.{Takes, value_held, IsGiven}
 use Rattle.mb_frames.proofs.Apartness.{value-real, values-apart}
-use Rattle.mb_frames.proofs.Forms.{ready-runs}
 use Rattle.mb_frames.proofs.HeldLess.{object-value, undefined-held}
-use Rattle.mb_frames.proofs.Steadying.{done-holds, machine-ready, step-keeps, top-holds}
+use Rattle.mb_frames.proofs.Steadying.{done-holds, machine-ready, step-keeps, top-holds, top-home}
 use Rattle.mb_frames.proofs.Parts.{all-both}
 use Rattle.mb_frames.specs.Wholeness.{StepsKept, sort_by}
 use Rattle.mb_frames.specs.Kinds.{is_expression}
 use Rattle.mb_frames.specs.declared.frame.Move.{Move}
-use Rattle.mb_frames.specs.declared.frame.Move.TheVariants as move
 use Rattle.mb_frames.specs.declared.task.Task.{Task}
 use Rattle.mb_frames.specs.declared.task.Task.TheVariants as task
 use Rattle.mb_frames.specs.Held.{HeldValue}
 use Rattle.mb_frames.specs.Holding.{answer_held, done_held, expr_held, frame_held, task_held}
-use Rattle.mb_frames.specs.Ready.{Holds, IsReady, IsReadyMachine, KeepsBy, Leaves, MayHold}
+use Rattle.mb_frames.specs.Ready.{Holds, IsReady, IsReadyMachine, Keeps, KeepsBy, Leaves, MayHold}
 use Rattle.mb_frames.specs.Sorts.{AFlag, ACompletion, AProperty, APrototype, ASlot, AValue, AnObject, AreLinked, IsAnswer, IsOfSort, SomeKeys, Sort, expr_waits, fits, form_gives, frame_sort, task_gives, waits_for}
 use Rattle.mb_frames.specs.Standing.{Here, forms_at}
 use Rattle.mb_frames.specs.Stepping.{HasItsOutcome, IsStart, MayCross, Stepped, Written}
@@ -27,6 +24,7 @@ use Rattle.mb_frames.specs.declared.expressions.ExprFrame.{ExprFrame}
 use Rattle.mb_frames.specs.declared.expressions.ExprFrame.TheVariants as e
 use Rattle.mb_frames.specs.declared.frame.Frame.{Frame}
 use Rattle.mb_frames.specs.declared.frame.Frame.TheVariants as x
+use Rattle.mb_frames.specs.declared.machine.Halt.{Halt}
 use Rattle.mb_frames.specs.declared.machine.Machine.{Machine}
 use Rattle.mb_frames.specs.declared.machine.Waiting.{Waiting}
 use Rattle.mb_frames.specs.declared.task.Answer.{Answer}
@@ -54,16 +52,6 @@ no-crossing d home (x.Proxy y) h k = k
 no-crossing d home (x.Collect y) h k = k
 no-crossing d home (x.Membrane y) h k = h
 no-crossing d home (x.Entry y) h k = k
-
--- ---- what a side of a ready world has
-
-pub ready-acts : (d : Data) (home : Side) → IsReady d → home.0 < d.sides → Acts d home
-ready-acts d home r i = record {
-  side = omega (arith, i, r.formed.sides.1);
-  ids = r.ids;
-  runs = ready-runs d home r i;
-  built_ins = λ place h. rw (r.formed.built_ins home place i h).found refl;
-}
 
 -- ---- what a frame takes
 
@@ -116,8 +104,11 @@ module _ (d : Data) (home : Side) (r : IsReady d) where
       by e.Typeof f h = value-real d r home (value_held z) k
       by (e.Right sign left) f h =
           (value-real d r home (value_held z) k, values-apart d r home left (value_held z) h.0 k)
-      by (e.Chain prototype) f h =
-          (prototype-is s z f i, values-apart d r home (value_held z) (v.Object prototype) k (object-value d home prototype h.0))
+      by (e.Chain prototype) f h = (
+        prototype-is s z f i,
+        values-apart d r home (value_held z) (v.Object prototype) k
+            (object-value d home prototype h.0),
+      )
       by (e.Element at node array place) f h = (r, (h.1.1.1.0, (k, tt)))
       by (e.PropKey at node object property place) f h = (r, (k, h))
       by (e.PropValue at node object place key) f h = (r, (k, h))
@@ -190,7 +181,8 @@ module _ (d : Data) (m : Machine) (below : List Waiting) (top : Waiting) (done :
       by : (y : Frame) → top.frame ≡ y → (q : Option Outcome) → done ≡ q → IsGiven d top.home y q
       by (x.Expr y) i None j = subst (λ (z : Frame). IsStart z) i (started j)
       by (x.Expr y) i (Some (o.Normal z)) j =
-          takes-it d top.home h.world h.formed.sort y z (subst (λ (z : Frame). waits_for z h.formed.sort ≡ true) i waits) (subst (λ (q : Option Outcome). Maybe (IsOfSort h.formed.sort) q) (sym ended ∙ j) h.formed.of_sort)
+          takes-it d top.home h.world h.formed.sort y z (subst (λ (z : Frame). waits_for z h.formed.sort ≡ true) i
+          waits) (subst (λ (q : Option Outcome). Maybe (IsOfSort h.formed.sort) q) (sym ended ∙ j) h.formed.of_sort)
           (subst (λ (q : Frame). Holds d top.home (frame_held q)) i (top-holds d m below top h was))
           (subst (λ (q : Option Outcome). Holds d top.home (done_held q)) (sym ended ∙ j)
           (done-holds d m below top h was (no-crossing d top.home top.frame ours)))
@@ -281,6 +273,11 @@ module _ (d : Data) (m : Machine) (below : List Waiting) (top : Waiting) (done :
   pub taken : Holds d top.home (frame_held top.frame ++ done_held done)
   taken = all-both (MayHold d top.home) (frame_held top.frame) (done_held done) (top-holds d m below top h was)
       (rw ended (done-holds d m below top h was (no-crossing d top.home top.frame ours)))
+
+  -- what the frame keeps that takes it
+  pub took : {r : Result Move Halt} (d' : Data)
+      → Keeps top.home AValue (frame_held top.frame ++ done_held done) r d d' → KeepsBy top.home AValue r d d'
+  took {r} d' k = k h.world (top-home d m below top h was) taken
 
   pub values-sort : (s : Sort) → sort_by d top s ≡ AValue
   values-sort s = frame-values d top.home top.frame s ours (top-holds d m below top h was)

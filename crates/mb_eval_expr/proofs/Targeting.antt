@@ -14,7 +14,7 @@ use Rattle.mb_tree.specs.declared.form.Form.TheVariants as g
 use Rattle.mb_base.specs.declared.value.StrId.{StrId}
 use Rattle.mb_frames.proofs.Passed.{Part-by, Part-sure}
 use Rattle.mb_eval_expr.proofs.Referring.{all-append}
-use Rattle.mb_eval_expr.specs.machine.Standing.{ContextIn}
+use Rattle.mb_parts.specs.Standing.{ContextIn}
 use Rattle.mb_frames.proofs.Steps.{Sure-wait}
 use Rattle.mb_frames.specs.Held.{AreIn, HeldIn}
 use Rattle.mb_frames.specs.Holding.{after_held, frame_held, task_held}
@@ -137,9 +137,11 @@ module _ (home : Side) (d : Data) (at : AContext) (node : ℕ) (after : After) (
   Part-stripped r d' f f' f'' o e q s =
       let ls : List Form = layers_at d home node in
       Part-passed home r d d d' f f' f'' ((refer here node >>= goes) finished) ((reference here o >>= goes) finished)
-      (Passes-then d d d f f f' ((refer here node >>= goes) finished) (λ g. pay_each ls (then-on (innermost ls)) g) ((reference here o >>= goes) finished)
+      (Passes-then d d d f f f' ((refer here node >>= goes) finished) (λ g. pay_each ls (then-on (innermost ls)) g)
+      ((reference here o >>= goes) finished)
       (Passes-by d f ((refer here node >>= goes) finished) (λ g. pay_each ls (then-on (innermost ls)) g) around)
-      (subst (λ p. Passes d d f f' (λ g. pay_each ls (then-on (innermost ls)) g) ((reference here p >>= goes) finished)) q
+      (subst (λ p. Passes d d f f' (λ g. pay_each ls (then-on (innermost ls)) g)
+      ((reference here p >>= goes) finished)) q
       (Passes-each d ls f f' (then-on (innermost ls)) e)))
       s
 
@@ -149,7 +151,8 @@ module _ (home : Side) (d : Data) (at : AContext) (node : ℕ) (after : After) (
       >>= after_rest (forms_at d home) (context_in (names_of d) home.0 at) after) finished)
   Part-not-stripped f u =
       let ls : List Form = layers_at d home node in
-      Part-by home (Err SpentHalt) d d f 0 ((refer here node >>= goes) finished) (λ g. pay_each ls (then-on (innermost ls)) g) around
+      Part-by home (Err SpentHalt) d d f 0 ((refer here node >>= goes) finished)
+      (λ g. pay_each ls (then-on (innermost ls)) g) around
       (Part-each home d ls f (then-on (innermost ls)) u)
 
   pub Part-member : (f : ℕ) (base : NodeId) (name : StrId) → ContextIn d at → TextIn d name → AreIn d (after_held after)

@@ -38,29 +38,35 @@ module _ (home : Side) (d : Data) (f scope : ℕ) (name : List ℕ) (y gives : V
       → Part home r d d' f f (reference_error home.0 finished)
       → Part home r d d' f f ((write_name home.0 scope name y >>= (λ b. is_value gives)) finished)
   Part-unbound r d' h s =
-      Part-by home r d d' f f ((write_name home.0 scope name y >>= (λ b. is_value gives)) finished) (reference_error home.0 finished)
+      Part-by home r d d' f f ((write_name home.0 scope name y >>= (λ b. is_value gives)) finished)
+      (reference_error home.0 finished)
       (λ log. row-is None log (ap (binding_at (Image d log)) (h log))) s
 
   module _ (at : ScopeId) (place : ℕ) (s : Scope) (b : Bound) (e : scope_at d at ≡ Some s)
-      (g : slice_get s.names place ≡ Some b) (h : (log : List Item) → resolve (Image d log) scope name ≡ Some (at.0, place)) where
+      (g : slice_get s.names place ≡ Some b) (h : (log : List Item) → resolve (Image d log) scope name ≡ Some
+      (at.0, place)) where
     found : (log : List Item) → find_binding (Image d log) scope name ≡ Some (binding_in (names_of d) b)
     found log =
         ap (binding_at (Image d log)) (h log) ∙ binding-is d at s place e log
         ∙ ap (option_map (binding_in (names_of d))) g
 
-    to-value : (fixed : Bool) (o : Option Val) (log : List Item) → b.fixed ≡ fixed → option_map (Resolve (names_of d)) b.value ≡ o
+    to-value : (fixed : Bool) (o : Option Val) (log : List Item) → b.fixed ≡ fixed → option_map
+        (Resolve (names_of d)) b.value ≡ o
         → (write_name home.0 scope name y >>= (λ b. is_value gives)) finished (Image d log)
         ≡ (write_value home.0 scope name y fixed o >>= (λ b. is_value gives)) finished (Image d log)
     to-value fixed o log p q =
         row-is (Some (binding_in (names_of d) b)) log (found log)
-        ∙ ap (λ z. (write_value home.0 scope name y z (option_map (Resolve (names_of d)) b.value) >>= (λ b. is_value gives)) finished (Image d log)) p
+        ∙ ap (λ z. (write_value home.0 scope name y z (option_map (Resolve (names_of d)) b.value) >>=
+        (λ b. is_value gives)) finished (Image d log)) p
         ∙ ap (λ z. (write_value home.0 scope name y fixed z >>= (λ b. is_value gives)) finished (Image d log)) q
 
     -- it isn't given yet
-    pub Part-ungiven : (r : Result Move Halt) (d' : Data) → b.value ≡ None → Part home r d d' f f (reference_error home.0 finished)
+    pub Part-ungiven : (r : Result Move Halt) (d' : Data) → b.value ≡ None → Part home r d d' f f
+        (reference_error home.0 finished)
         → Part home r d d' f f ((write_name home.0 scope name y >>= (λ b. is_value gives)) finished)
     Part-ungiven r d' q k =
-        Part-by home r d d' f f ((write_name home.0 scope name y >>= (λ b. is_value gives)) finished) (reference_error home.0 finished)
+        Part-by home r d d' f f ((write_name home.0 scope name y >>= (λ b. is_value gives)) finished)
+        (reference_error home.0 finished)
         (λ log. to-value b.fixed None log refl (ap (option_map (Resolve (names_of d))) q)) k
 
     -- it is fixed
@@ -68,7 +74,8 @@ module _ (home : Side) (d : Data) (f scope : ℕ) (name : List ℕ) (y gives : V
         → Part home r d d' f f (type_error home.0 finished)
         → Part home r d d' f f ((write_name home.0 scope name y >>= (λ b. is_value gives)) finished)
     Part-fixed r d' v q p k =
-        Part-by home r d d' f f ((write_name home.0 scope name y >>= (λ b. is_value gives)) finished) (type_error home.0 finished)
+        Part-by home r d d' f f ((write_name home.0 scope name y >>= (λ b. is_value gives)) finished)
+        (type_error home.0 finished)
         (λ log. to-value true (Some (Resolve (names_of d) v)) log p (ap (option_map (Resolve (names_of d))) q)) k
 
     written-scope : (x : Value) → Resolve (names_of d) x ≡ y
@@ -76,8 +83,13 @@ module _ (home : Side) (d : Data) (f scope : ℕ) (name : List ℕ) (y gives : V
     written-scope x r =
         let n = names_of d in
         let bs : List Binding = map (binding_in n) s.names in
-        let W : List Binding → GraphScope = λ l. record { side = s.home.0; parent = option_map (λ p. p.0) s.parent; bindings = l } in
-        ap W (ap (λ o. bind_with bs place o y) (slice_get-map (binding_in n) s.names place ∙ ap (option_map (binding_in n)) g)
+        let W : List Binding → GraphScope = λ l. record {
+          side = s.home.0;
+          parent = option_map (λ p. p.0) s.parent;
+          bindings = l;
+        } in
+        ap W (ap (λ o. bind_with bs place o y) (slice_get-map (binding_in n) s.names place ∙ ap
+        (option_map (binding_in n)) g)
         ∙ ap (λ w. slice_set bs place (record (binding_in n b) { value = Some w })) (sym r)
         ∙ sym (ap (λ o. map (binding_in n) (give_if place x s.names o)) g
         ∙ map-set (binding_in n) s.names place (given_value x b)))
@@ -88,17 +100,25 @@ module _ (home : Side) (d : Data) (f scope : ℕ) (name : List ℕ) (y gives : V
         → Sure home d' (is_value (Resolve (names_of d') z) finished) step
         → Part home (Ok step) d d' f f ((write_name home.0 scope name y >>= (λ b. is_value gives)) finished)
     Part-given d' v x z step q p rx rz c k =
-        let F : Graph → Graph = λ i. record i { scopes = slice_set i.scopes at.0 (scope_in (names_of d) (giving place x s)) } in
+        let F : Graph → Graph = λ i. record i {
+          scopes = slice_set i.scopes at.0
+              (scope_in (names_of d) (giving place x s));
+        } in
         let same : (A : Type 0) (t : Data → A) → t d' ≡ t (set_scope d at (giving place x s))
         = λ A t. ap t c ∙ ap (λ o. t (change_scope_if d at (giving place x) o)) e in
         Part-passed home (Ok step) d d' d' f f f
-        ((write_name home.0 scope name y >>= (λ b. is_value gives)) finished) (is_value (Resolve (names_of d') z) finished)
-        (Passes-becomes d d' f F _ _ (rw c (of-changed-scope d at s (giving place x) e)) (same (List Entry) (λ i. entries_in i)) (same (List (Option Script)) (λ i. i.programs)) (same ℕ (λ i. i.sides)) (same Bool (λ i. i.joined))
+        ((write_name home.0 scope name y >>= (λ b. is_value gives)) finished)
+        (is_value (Resolve (names_of d') z) finished)
+        (Passes-becomes d d' f F _ _ (rw c (of-changed-scope d at s (giving place x) e))
+        (same (List Entry) (λ i. entries_in i)) (same (List (Option Script)) (λ i. i.programs))
+        (same ℕ (λ i. i.sides)) (same Bool (λ i. i.joined))
         (λ log.
         to-value false (Some (Resolve (names_of d) v)) log p (ap (option_map (Resolve (names_of d))) q)
         ∙ ap (λ o. is_value gives finished (graph_giving o y (Image d log))) (h log)
-        ∙ ap (λ o. is_value gives finished (record (Image d log) { scopes = scopes_with (Image d log).scopes at.0 place o y }))
+        ∙ ap (λ o. is_value gives finished
+        (record (Image d log) { scopes = scopes_with (Image d log).scopes at.0 place o y }))
         (slice_get-map (scope_in (names_of d)) d.scopes at.0 ∙ ap (option_map (scope_in (names_of d))) e)
-        ∙ ap (λ t. is_value gives finished (record (Image d log) { scopes = slice_set (Image d log).scopes at.0 t })) (written-scope x rx)
+        ∙ ap (λ t. is_value gives finished (record (Image d log) { scopes = slice_set (Image d log).scopes at.0 t }))
+        (written-scope x rx)
         ∙ ap (λ w. is_value w finished (F (Image d log))) (sym rz ∙ sym (same Val (λ i. Resolve (names_of i) z)))))
         (Part-sure home d' f (is_value (Resolve (names_of d') z) finished) step k)

@@ -5,7 +5,6 @@ pub mod Literals
 pub mod Names
 pub mod Plain
 pub mod Resuming
-pub mod Standing
 pub mod Storing
 pub mod Targets
 pub mod Uses

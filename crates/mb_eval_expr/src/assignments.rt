@@ -17,7 +17,7 @@ ghost use Rattle.mb_world.specs.Graph.{Item};
 ghost use Rattle.mb_world.specs.Ids.{ScopeIn, TextIn, ValueIn};
 ghost use Rattle.mb_world.specs.Image.{Image, Resolve, names_of, text_in};
 ghost use Rattle.mb_frames.specs.Passing.{Part};
-ghost use Rattle.mb_eval_expr.specs.machine.Standing.{Acts, ContextIn};
+ghost use Rattle.mb_parts.specs.Standing.{Acts, ContextIn};
 ghost use Rattle.mb_frames.specs.Ready.{Keeps};
 ghost use Rattle.mb_frames.specs.Sorts.{AValue};
 ghost use Rattle.mb_eval_expr.specs.machine.Keeping.{Leaving};
@@ -25,11 +25,11 @@ ghost use Rattle.mb_frames.specs.declared.expressions.ExprFrame.TheVariants as T
 
 use crate::binary::compute;
 use crate::computing::{Computed, stepped};
-use crate::errors::{throws, type_error};
 use crate::giving::{asks, value};
 use crate::names::find;
 use mb_base::{Fuel, NodeId, ScopeId, Side, StrId, Value};
 use mb_frames::{Context, ExprFrame, Frame, Halt, Method, Move, Reference, Task};
+use mb_parts::{throws, type_error};
 use mb_tree::Sign;
 use mb_world::{ErrorKind, World};
 

@@ -13,7 +13,8 @@ ghost use Rattle.mb_model.specs.Writing.{◌>>=◌ as after_that, look};
 ghost use Rattle.mb_world.specs.Ids.{TextIn};
 ghost use Rattle.mb_world.specs.Image.{names_of, text_in};
 ghost use Rattle.mb_frames.specs.Passing.{Part};
-ghost use Rattle.mb_eval_expr.specs.machine.Standing.{Acts, ContextIn, HasRealNames};
+ghost use Rattle.mb_parts.specs.Standing.{Acts, ContextIn};
+ghost use Rattle.mb_frames.specs.Real.{HasRealNames};
 ghost use Rattle.mb_eval_expr.specs.machine.Targets.{layers_at};
 ghost use Rattle.mb_frames.specs.Ready.{Holds, IsReady, Keeps};
 ghost use Rattle.mb_frames.specs.Sorts.{AValue};
@@ -22,9 +23,7 @@ ghost use Rattle.mb_frames.specs.Kinds.{is_expression, is_call_form};
 ghost use Rattle.mb_eval_expr.specs.machine.Keeping.{context_held};
 
 use crate::choices::seq_got;
-use crate::conversions::word;
 use crate::elements::array_row;
-use crate::errors::{throws, type_error};
 use crate::first::first;
 use crate::functions::{arrow_row, function_row};
 use crate::giving::value;
@@ -35,6 +34,7 @@ use crate::targets::{Target, charge_each, refer, strip};
 use crate::using::follow;
 use mb_base::{Fuel, NodeId, Side, StrId, Value};
 use mb_frames::{After, Context, ExprFrame, Frame, Halt, Move, Reference, Task, form_at};
+use mb_parts::{throws, type_error, word};
 use mb_tree::{Form, Sign};
 use mb_world::{ErrorKind, World};
 use std::alloc::Global;
@@ -183,28 +183,18 @@ pub(crate) fn begin(
                 sign,
                 target,
                 value,
-            } => refer(
-                w,
-                fuel,
-                alloc,
-                home,
-                at,
-                target,
-                After::Compound { sign, value },
-            ),
+            } => {
+                let after = After::Compound { sign, value };
+                refer(w, fuel, alloc, home, at, target, after)
+            }
             Form::Update {
                 plus,
                 prefix,
                 target,
-            } => refer(
-                w,
-                fuel,
-                alloc,
-                home,
-                at,
-                target,
-                After::Update { plus, prefix },
-            ),
+            } => {
+                let after = After::Update { plus, prefix };
+                refer(w, fuel, alloc, home, at, target, after)
+            }
             Form::Call { callee, .. } => call_row(w, fuel, alloc, home, at, node, callee),
             Form::Seq { .. } => seq_got(w, home, at, node, 0, Value::Undefined),
             Form::Unary { sign, operand } => unary_row(w, fuel, alloc, home, at, sign, operand),

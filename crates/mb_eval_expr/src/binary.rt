@@ -14,9 +14,9 @@ ghost use Rattle.mb_eval_expr.specs.machine.Computing.{Computes, holds, is_arith
 ghost use Rattle.mb_eval_expr.specs.machine.Keeping.{GivesPlain};
 
 use crate::computing::{Computed, OUT_OF_RANGE, WRONG_TYPE, whole};
-use crate::conversions::text_from;
 use mb_base::{Fuel, StrId, Value};
 use mb_frames::Halt;
+use mb_parts::text_from;
 use mb_text::TextFault;
 use mb_tree::Sign;
 use mb_world::World;

@@ -1,5 +1,5 @@
 // Calls, `new` and their arguments (ECMA-262, 13.3.5, 13.3.6, 13.3.8).
-ghost use Rattle.std.specs.Prelude.{◌≡◌, ◌+◌, ◌∷◌, ◌++◌, ℕ, [], All, drop, length};
+ghost use Rattle.std.specs.Prelude.{◌+◌, ◌∷◌, ◌++◌, ℕ, [], All, drop, length};
 ghost use Rattle.mb_frames.specs.Resolved.{context_in, values_in};
 ghost use Rattle.mb_frames.specs.Rest.Parts.{parts_at};
 ghost use Rattle.mb_frames.specs.Standing.{forms_at};
@@ -9,18 +9,18 @@ ghost use Rattle.mb_model.specs.Writing.{◌>>=◌ as after_that};
 ghost use Rattle.mb_world.specs.Ids.{ValueIn};
 ghost use Rattle.mb_world.specs.Image.{Resolve, names_of};
 ghost use Rattle.mb_frames.specs.Passing.{Part};
-ghost use Rattle.mb_eval_expr.specs.machine.Standing.{Acts, ContextIn, IsReal};
+ghost use Rattle.mb_parts.specs.Standing.{Acts, ContextIn};
+ghost use Rattle.mb_frames.specs.Real.{IsReal};
 ghost use Rattle.mb_frames.specs.Ready.{Keeps};
 ghost use Rattle.mb_frames.specs.Sorts.{AValue};
 ghost use Rattle.mb_frames.specs.Held.{HeldValue, HeldValues};
 ghost use Rattle.mb_frames.specs.Holding.{expr_held};
 ghost use Rattle.mb_frames.specs.declared.expressions.ExprFrame.TheVariants as TheFrame;
 
-use crate::errors::type_error;
 use crate::giving::performs;
-use crate::shapes::{callable, constructor};
 use mb_base::{NodeId, Side, Value};
 use mb_frames::{Context, ExprFrame, Frame, Halt, Method, Move, Task, Values, part_at};
+use mb_parts::{callable, constructor, type_error};
 use mb_world::World;
 use std::alloc::Global;
 

@@ -1,5 +1,5 @@
 // Choices: what is given, or which node goes on (ECMA-262, 13.13, 13.14, 13.5.7).
-ghost use Rattle.std.specs.Prelude.{◌≡◌, ℕ, Some, drop, not, [], ◌∷◌};
+ghost use Rattle.std.specs.Prelude.{ℕ, Some, drop, not, [], ◌∷◌};
 ghost use Rattle.mb_frames.specs.Stepping.{Sure};
 ghost use Rattle.mb_frames.specs.Resolved.{context_in};
 ghost use Rattle.mb_model.specs.Meaning.{finished};
@@ -12,7 +12,7 @@ ghost use Rattle.mb_world.specs.Value.{to_boolean};
 ghost use Rattle.mb_frames.specs.Rest.Parts.{parts_at};
 ghost use Rattle.mb_frames.specs.Standing.{forms_at};
 ghost use Rattle.mb_frames.specs.Passing.{Part};
-ghost use Rattle.mb_eval_expr.specs.machine.Standing.{Acts, ContextIn};
+ghost use Rattle.mb_parts.specs.Standing.{Acts, ContextIn};
 ghost use Rattle.mb_frames.specs.Ready.{Keeps};
 ghost use Rattle.mb_frames.specs.Sorts.{AValue};
 ghost use Rattle.mb_frames.specs.Held.{HeldValue};
@@ -20,10 +20,10 @@ ghost use Rattle.mb_frames.specs.Holding.{expr_held};
 ghost use Rattle.mb_eval_expr.specs.machine.Keeping.{Leaving};
 ghost use Rattle.mb_frames.specs.declared.expressions.ExprFrame.TheVariants as TheFrame;
 
-use crate::conversions::truth;
 use crate::giving::{evaluates, truth_value, value};
 use mb_base::{NodeId, Side, Value};
 use mb_frames::{Context, ExprFrame, Frame, Halt, Move, Task, part_at};
+use mb_parts::truth;
 use mb_world::World;
 
 // `||` has its left side.

@@ -1,5 +1,5 @@
 // Literals of arrays (ECMA-262, 13.2.4).
-ghost use Rattle.std.specs.Prelude.{◌≡◌, ◌+◌, ◌<◌, ◌-◌, ◌^◌, ◌∷◌, [], ℕ, OnOk, drop, false};
+ghost use Rattle.std.specs.Prelude.{◌≡◌, ◌+◌, ◌<◌, ◌-◌, ◌^◌, ◌∷◌, [], ℕ, OnOk, drop};
 ghost use Rattle.mb_frames.specs.Held.{HeldArray, HeldNode, HeldValue};
 ghost use Rattle.mb_frames.specs.Ready.{Holds, IsReady, Keeps};
 ghost use Rattle.mb_frames.specs.Resolved.{context_in};
@@ -10,10 +10,10 @@ ghost use Rattle.mb_model.specs.Nodes.Literals.{elements};
 ghost use Rattle.mb_model.specs.Objects.Methods.{store_element};
 ghost use Rattle.mb_model.specs.Operations.Makings.{make_array};
 ghost use Rattle.mb_model.specs.Writing.{◌>>=◌ as after_that};
-ghost use Rattle.mb_world.specs.Ids.{HasItsIds, ObjIn, ValueIn};
+ghost use Rattle.mb_world.specs.Ids.{ObjIn};
 ghost use Rattle.mb_world.specs.Image.{Resolve, names_of, object_in};
 ghost use Rattle.mb_frames.specs.Passing.{Part};
-ghost use Rattle.mb_eval_expr.specs.machine.Standing.{Acts, ContextIn};
+ghost use Rattle.mb_parts.specs.Standing.{Acts, ContextIn};
 ghost use Rattle.mb_eval_expr.specs.machine.Storing.{Stores, opened};
 ghost use Rattle.mb_frames.specs.Holding.{expr_held};
 ghost use Rattle.mb_frames.specs.Keeping.{KeepsOn, none_held};
@@ -22,13 +22,13 @@ ghost use Rattle.mb_frames.specs.Sorts.{AValue};
 ghost use Rattle.mb_frames.specs.declared.expressions.ExprFrame.TheVariants as TheFrame;
 ghost use Rattle.mb_eval_expr.specs.machine.Keeping.{context_held};
 
-use crate::conversions::digits;
 use crate::giving::value;
 use crate::making::make_array;
 use mb_array::define_any;
 use mb_base::{NodeId, ObjId, Side, Value};
 use mb_desc::Desc;
 use mb_frames::{Context, ExprFrame, Frame, Halt, Move, Task, part_at};
+use mb_parts::digits;
 use mb_world::World;
 
 // A property that can be written, listed and changed (ECMA-262, 7.3.5).
@@ -124,8 +124,8 @@ pub(crate) fn element_got(
         (store_element home.0 (object_in (names_of w.old) array) place (Resolve (names_of w.old) x))
         (λ b. elements (context_in (names_of w.old) home.0 at) (object_in (names_of w.old) array) (place + 1)
         (drop (place + 1) (parts_at (forms_at w.old home) node.0))) finished) }
-    ensures keeps { Keeps home AValue (HeldValue x ∷ expr_held (TheFrame.Element at node array place)) result
-        w.old w.new }
+    ensures keeps { Keeps home AValue (HeldValue x ∷ expr_held (TheFrame.Element at node array place)) result w.old
+        w.new }
 {
     if place >= u32::MAX - 1 {
         return Err(Halt::NoMemory);

@@ -8,17 +8,24 @@ ghost use Rattle.mb_frames.specs.Stepping.{Sure};
 ghost use Rattle.mb_model.specs.Meaning.{finished};
 ghost use Rattle.mb_model.specs.Nodes.{node as node_form};
 ghost use Rattle.mb_world.specs.Data.{Data};
-ghost use Rattle.mb_world.specs.Image.{names_of};
+ghost use Rattle.mb_world.specs.Image.{Resolve, names_of};
 ghost use Rattle.mb_frames.specs.Told.{FormIn, told_at, IsNodeOf};
 ghost use Rattle.mb_eval_expr.specs.machine.Plain.{is_plain};
-ghost use Rattle.mb_eval_expr.specs.machine.Standing.{ContextIn};
+ghost use Rattle.mb_parts.specs.Standing.{ContextIn};
 ghost use Rattle.mb_frames.specs.Grammatical.{HasItsParts};
-ghost use Rattle.mb_eval_expr.specs.machine.Keeping.{Leaving, context_held};
+ghost use Rattle.mb_eval_expr.specs.machine.Keeping.{IsPlainValue, Leaving, context_held};
+ghost use Rattle.mb_world.specs.FormOf.{literal};
+ghost use Rattle.mb_world.specs.Ids.{ValueIn};
+ghost use Rattle.mb_frames.specs.declared.frame.Frame.TheVariants as TheFrame;
+ghost use Rattle.mb_frames.specs.declared.frame.Move.TheVariants as TheMove;
+ghost use Rattle.mb_frames.specs.declared.task.Task.TheVariants as TheTask;
 
+use crate::giving::{evaluates, value};
 use mb_base::{NodeId, Value};
-use mb_frames::{After, Answer, Context, ExprFrame, Frame, Move, Outcome, Task};
+use mb_frames::{After, Context, ExprFrame, Frame, Move, Task};
 use mb_tree::{Fixed, Form};
 
+// An expression begins that has one part first, or none.
 pub(crate) fn first(form: Form<'_>, node: NodeId, at: Context) -> Move
     requires { is_plain (seen form) ≡ true }
     ensures row { (home : ASide) (d : Data) → ContextIn d at → FormIn d (seen form.entry) →
@@ -31,66 +38,56 @@ pub(crate) fn first(form: Form<'_>, node: NodeId, at: Context) -> Move
         Leaving home (context_held at) result d }
 {
     match form {
-        Form::This => Move::Done(Outcome::Normal(Answer::Value(at.this))),
-        Form::Number { whole } => Move::Done(Outcome::Normal(Answer::Value(Value::Whole(whole)))),
-        Form::Text { text } => Move::Done(Outcome::Normal(Answer::Value(Value::Text(text)))),
-        Form::Literal { fixed: Fixed::True } => Move::Done(Outcome::Normal(Answer::Value(
-            Value::Bool(true),
-        ))),
-        Form::Literal {
-            fixed: Fixed::False,
-        } => Move::Done(Outcome::Normal(Answer::Value(Value::Bool(false)))),
-        Form::Literal { fixed: Fixed::Null } => Move::Done(Outcome::Normal(Answer::Value(
-            Value::Null,
-        ))),
-        Form::Literal {
-            fixed: Fixed::Undefined,
-        } => Move::Done(Outcome::Normal(Answer::Value(Value::Undefined))),
-        Form::Group { inner } => Move::Next(Task::Evaluate { node: inner, at }),
+        Form::This => value(at.this),
+        Form::Number { whole } => value(Value::Whole(whole)),
+        Form::Text { text } => value(Value::Text(text)),
+        Form::Literal { fixed } => value(literal(fixed)),
+        Form::Group { inner } => evaluates(inner, at),
         Form::Cond {
             test,
             then,
             otherwise,
-        } => Move::Wait(
-            Frame::Expr(ExprFrame::Cond {
+        } => {
+            let frame = ExprFrame::Cond {
                 at,
                 main: then,
                 other: otherwise,
-            }),
-            Task::Evaluate { node: test, at },
-        ),
-        Form::Or { left, right } => Move::Wait(
-            Frame::Expr(ExprFrame::Or { at, right }),
-            Task::Evaluate { node: left, at },
-        ),
-        Form::And { left, right } => Move::Wait(
-            Frame::Expr(ExprFrame::And { at, right }),
-            Task::Evaluate { node: left, at },
-        ),
-        Form::Binary { sign, left, right } => Move::Wait(
-            Frame::Expr(ExprFrame::Left { at, sign, right }),
-            Task::Evaluate { node: left, at },
-        ),
-        Form::Member { base, name } => Move::Wait(
-            Frame::Expr(ExprFrame::MemberBase {
-                at,
-                name,
-                after: After::Get,
-            }),
-            Task::Evaluate { node: base, at },
-        ),
-        Form::Index { base, key } => Move::Wait(
-            Frame::Expr(ExprFrame::IndexBase {
-                at,
-                key,
-                after: After::Get,
-            }),
-            Task::Evaluate { node: base, at },
-        ),
-        Form::New { callee, .. } => Move::Wait(
-            Frame::Expr(ExprFrame::Constructor { at, node }),
-            Task::Evaluate { node: callee, at },
-        ),
+            };
+            waits(frame, test, at)
+        }
+        Form::Or { left, right } => waits(ExprFrame::Or { at, right }, left, at),
+        Form::And { left, right } => waits(ExprFrame::And { at, right }, left, at),
+        Form::Binary { sign, left, right } => waits(ExprFrame::Left { at, sign, right }, left, at),
+        Form::Member { base, name } => {
+            let after = After::Get;
+            waits(ExprFrame::MemberBase { at, name, after }, base, at)
+        }
+        Form::Index { base, key } => {
+            let after = After::Get;
+            waits(ExprFrame::IndexBase { at, key, after }, base, at)
+        }
+        Form::New { callee, .. } => waits(ExprFrame::Constructor { at, node }, callee, at),
         _ => unreachable!(),
     }
+}
+
+// The value of a literal that is a word.
+fn literal(fixed: Fixed) -> Value
+    ensures value { (d : Data) → Resolve (names_of d) result ≡ literal fixed }
+    ensures plain { IsPlainValue result }
+    ensures within { (d : Data) → ValueIn d result }
+{
+    match fixed {
+        Fixed::True => Value::Bool(true),
+        Fixed::False => Value::Bool(false),
+        Fixed::Null => Value::Null,
+        Fixed::Undefined => Value::Undefined,
+    }
+}
+
+// An expression waits for the value of a node.
+fn waits(frame: ExprFrame, node: NodeId, at: Context) -> Move
+    ensures { result ≡ TheMove.Wait (TheFrame.Expr frame) (TheTask.Evaluate node at) }
+{
+    Move::Wait(Frame::Expr(frame), Task::Evaluate { node, at })
 }

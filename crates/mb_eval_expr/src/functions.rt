@@ -1,11 +1,10 @@
 // Functions of expressions (ECMA-262, 15.2.5, 15.3.4, 15.4.4).
 ghost use Rattle.std.specs.Prelude.{◌≡◌, ◌≤◌, ◌<◌, ◌^◌, ◌++◌, ◌∷◌, [], ℕ, IfOk, None, Some, false, length, true};
-ghost use Rattle.mb_frames.specs.Going.{Changes};
 ghost use Rattle.mb_frames.specs.Passing.{Part, TextsGrew};
 ghost use Rattle.mb_frames.specs.Resolved.{context_in, label_in};
 ghost use Rattle.mb_model.specs.Meaning.{finished};
 ghost use Rattle.mb_model.specs.Nodes.Literals.{function_row, keyed_function};
-ghost use Rattle.mb_model.specs.Nodes.Scopes.{code, initialize};
+ghost use Rattle.mb_model.specs.Nodes.Scopes.{code};
 ghost use Rattle.mb_model.specs.Operations.Makings.{make_function};
 ghost use Rattle.mb_model.specs.Writing.{◌>>=◌ as after_that, is_value};
 ghost use Rattle.mb_world.specs.Form.{FunctionParts as TheParts};
@@ -13,19 +12,17 @@ ghost use Rattle.mb_world.specs.Symbols.{bracketed, key_name};
 ghost use Rattle.mb_world.specs.Ids.{HasItsIds, KeyIn, Maybe, ScopeIn, TextIn, ValueIn};
 ghost use Rattle.mb_world.specs.Image.{Resolve, code_in, key_in, names_of, text_in};
 ghost use Rattle.mb_eval_expr.specs.machine.Functions.{MakesKeyed, NamedAs, named_row};
-ghost use Rattle.mb_eval_expr.specs.machine.Standing.{Acts, ContextIn};
-ghost use Rattle.mb_base.specs.declared.value.Side.{Side as ASide};
-ghost use Rattle.mb_frames.specs.Held.{HeldNode, HeldScope, HeldText, HeldValue};
-ghost use Rattle.mb_frames.specs.Keeping.{KeepsOn, none_held};
+ghost use Rattle.mb_parts.specs.Standing.{Acts, ContextIn};
+ghost use Rattle.mb_frames.specs.Held.{HeldNode, HeldText};
 ghost use Rattle.mb_frames.specs.Making.{code_held, function_held, is_function_of};
 ghost use Rattle.mb_frames.specs.Ready.{Changed, Holds, IsReady, Keeps};
 ghost use Rattle.mb_frames.specs.Sorts.{AValue};
 ghost use Rattle.mb_eval_expr.specs.machine.Keeping.{context_held};
 
-use crate::conversions::word;
 use crate::giving::value;
-use mb_base::{Fuel, Key, NoMemory, NodeId, ObjId, ScopeId, Side, StrId, Value};
+use mb_base::{Fuel, Key, NoMemory, NodeId, ObjId, Side, StrId, Value};
 use mb_frames::{Context, Halt, Move, make_function};
+use mb_parts::{initialize, word};
 use mb_text::TextFault;
 use mb_world::{Bound, Code, Names, Scope, World};
 use std::alloc::Global;
@@ -46,8 +43,8 @@ pub(crate) fn arrow_row(
     ensures row { (f : ℕ) → Part home result w.old w.new f f (after_that (make_function
         (code home.0 node.0 at.scope.0 false (Some (Resolve (names_of w.old) at.this))) None params [])
         is_value finished) }
-    ensures keeps { Keeps home AValue (HeldNode (is_function_of false true) node.0 ∷ context_held at) result
-        w.old w.new }
+    ensures keeps { Keeps home AValue (HeldNode (is_function_of false true) node.0 ∷ context_held at) result w.old
+        w.new }
 {
     let name = word(w, &[])?;
     let code = Code {
@@ -101,8 +98,8 @@ pub(crate) fn function_row(
     requires name { Maybe (TextIn w.old) name }
     ensures row { (parts : TheParts) → length parts.params ≡ params → Part home result w.old w.new fuel.old fuel.new
         (function_row (context_in (names_of w.old) home.0 at) node.0 parts (label_in (names_of w.old) name) finished) }
-    ensures keeps { Keeps home AValue (HeldNode (is_function_of true false) node.0 ∷ context_held at) result
-        w.old w.new }
+    ensures keeps { Keeps home AValue (HeldNode (is_function_of true false) node.0 ∷ context_held at) result w.old
+        w.new }
 {
     match name {
         Some(name) => {
@@ -166,31 +163,6 @@ fn named_function(
     let function = make_function(w, code, Some(name), params, name)?;
     initialize(w, scope, name, Value::Object(function))?;
     Ok(value(Value::Object(function)))
-}
-
-// A name that a scope itself binds is given its value.
-fn initialize(w: &mut World, scope: ScopeId, name: StrId, x: Value) -> Result<(), Halt>
-    requires scope { ScopeIn w.old scope }
-    requires name { TextIn w.old name }
-    requires value { ValueIn w.old x }
-    ensures changes { Changes result w.old w.new
-        (initialize scope.0 (text_in (names_of w.old) name) (Resolve (names_of w.old) x)) }
-    ensures ids { HasItsIds w.new }
-    ensures keeps { (home : ASide) →
-        KeepsOn home (HeldScope scope ∷ HeldText name ∷ HeldValue x ∷ []) none_held result w.old w.new }
-{
-    let _before = w.texts();
-    match w.scope(scope).names.place_of(name) {
-        Some(place) => {
-            if place > u32::MAX as usize {
-                return Err(Halt::NoMemory);
-            }
-            w.give(scope, place as u32, x);
-            let _after = w.texts();
-            Ok(())
-        }
-        None => Ok(()),
-    }
 }
 
 // The function of a method, getter or setter, whose name is a prefix and the key; `None` where that is too long for a

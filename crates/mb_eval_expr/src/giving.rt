@@ -8,7 +8,7 @@ ghost use Rattle.mb_frames.specs.Resolved.{context_in, method_in};
 ghost use Rattle.mb_world.specs.Data.{Data};
 ghost use Rattle.mb_world.specs.Ids.{ObjIn, ValueIn};
 ghost use Rattle.mb_world.specs.Image.{Resolve, names_of, object_in};
-ghost use Rattle.mb_eval_expr.specs.machine.Standing.{ContextIn};
+ghost use Rattle.mb_parts.specs.Standing.{ContextIn};
 ghost use Rattle.mb_base.specs.declared.value.Side.{Side as ASide};
 ghost use Rattle.mb_frames.specs.Held.{AreIn, HeldValue, HeldNode, HeldObject};
 ghost use Rattle.mb_frames.specs.Holding.{method_held};
@@ -49,11 +49,11 @@ pub(crate) fn evaluates(node: NodeId, at: Context) -> Move
 
 // The row ends with a method of an object.
 pub(crate) fn performs(home: Side, method: Method, object: ObjId) -> Move
-    ensures row { (d : Data) → ObjIn d object → AreIn d (method_held method) →
+    ensures row { (d : Data) → ObjIn d object → AreIn d (method_held object method) →
         Sure home d (answer (perform home.0 (method_in (names_of d) method) (object_in (names_of d) object)) finished)
         result }
     ensures leaves { (d : Data) → fits (method_gives method) AValue ≡ true →
-        Leaving home (HeldObject object ∷ method_held method) result d }
+        Leaving home (HeldObject object ∷ method_held object method) result d }
 {
     Move::Next(asks(home, method, object))
 }

@@ -5,11 +5,11 @@ ghost use Rattle.mb_frames.specs.Wholeness.{IsOfKind};
 ghost use Rattle.mb_model.specs.Operations.Makings.{make_array, make_plain};
 ghost use Rattle.mb_world.specs.Standard.{object_prototype};
 ghost use Rattle.mb_world.specs.declared.cell.CellKind.TheVariants as TheKind;
-ghost use Rattle.mb_eval_expr.specs.machine.Standing.{Acts};
+ghost use Rattle.mb_parts.specs.Standing.{Acts};
 ghost use Rattle.mb_frames.specs.Keeping.{KeepsOn};
 ghost use Rattle.mb_eval_expr.specs.machine.Keeping.{array_held, plain_held};
 
-use mb_base::{ObjId, Side, Value};
+use mb_base::{ObjId, Side};
 use mb_frames::{Halt, built_in};
 use mb_world::{CellKind, World};
 

@@ -1,10 +1,10 @@
 // Names and their scopes (ECMA-262, 9.1).
-ghost use Rattle.std.specs.Prelude.{◌≡◌, ◌<◌, IfSome, List, ℕ, length, option_map};
+ghost use Rattle.std.specs.Prelude.{◌≡◌, ◌<◌, IfSome, List, length, option_map};
 ghost use Rattle.mb_model.specs.Nodes.Scopes.{find_binding, resolve};
 ghost use Rattle.mb_world.specs.Data.{names_at};
 ghost use Rattle.mb_world.specs.Graph.{Item};
 ghost use Rattle.mb_world.specs.Ids.{BoundIn, Maybe, ScopeIn, TextIn, ValueIn};
-ghost use Rattle.mb_eval_expr.specs.machine.Standing.{HasRealNames, IsReal};
+ghost use Rattle.mb_frames.specs.Real.{HasRealNames, IsReal};
 ghost use Rattle.mb_eval_expr.specs.machine.Names.{bound_to};
 ghost use Rattle.mb_world.specs.Image.{Image, Resolve, binding_in, names_of, text_in};
 ghost use Rattle.mb_frames.specs.Ready.{IsReady, MayHold};

@@ -15,7 +15,8 @@ ghost use Rattle.mb_world.specs.Formed.{InRange, IsNullOrObject};
 ghost use Rattle.mb_world.specs.Ids.{ObjIn, ValueIn};
 ghost use Rattle.mb_world.specs.Image.{Image, Resolve, names_of, object_in};
 ghost use Rattle.mb_frames.specs.Passing.{Part};
-ghost use Rattle.mb_eval_expr.specs.machine.Standing.{Acts, ContextIn, IsReal};
+ghost use Rattle.mb_parts.specs.Standing.{Acts, ContextIn};
+ghost use Rattle.mb_frames.specs.Real.{IsReal};
 ghost use Rattle.mb_frames.specs.Ready.{Keeps};
 ghost use Rattle.mb_frames.specs.Sorts.{AValue};
 ghost use Rattle.mb_frames.specs.Held.{HeldValue, HeldObject};
@@ -26,12 +27,10 @@ ghost use Rattle.mb_frames.specs.declared.expressions.ExprFrame.TheVariants as T
 use crate::binary::compute;
 use crate::computing;
 use crate::computing::Computed;
-use crate::conversions::{key_from, word};
-use crate::errors::{throws, type_error};
 use crate::giving::{asks, truth_value, value};
-use crate::shapes::callable;
 use mb_base::{Fuel, NodeId, ObjId, Side, Value};
 use mb_frames::{Context, ExprFrame, Frame, Halt, Method, Move, Task};
+use mb_parts::{callable, key_from, throws, type_error, word};
 use mb_tree::Sign;
 use mb_world::World;
 

@@ -1,5 +1,5 @@
 // Places of objects: a base, and its key once it is there (ECMA-262, 13.3.2).
-ghost use Rattle.std.specs.Prelude.{◌≡◌, ℕ, ◌∷◌};
+ghost use Rattle.std.specs.Prelude.{ℕ, ◌∷◌};
 ghost use Rattle.mb_base.specs.declared.value.Side.{Side as ASide};
 ghost use Rattle.mb_frames.specs.Held.{AreIn, HeldValue};
 ghost use Rattle.mb_frames.specs.Holding.{after_held, expr_held};
@@ -15,17 +15,17 @@ ghost use Rattle.mb_world.specs.Ids.{TextIn, ValueIn};
 ghost use Rattle.mb_world.specs.Image.{Resolve, names_of, text_in};
 ghost use Rattle.mb_world.specs.Key.{Named};
 ghost use Rattle.mb_frames.specs.Passing.{Part};
-ghost use Rattle.mb_eval_expr.specs.machine.Standing.{Acts, ContextIn, HasRealNames};
+ghost use Rattle.mb_parts.specs.Standing.{Acts, ContextIn};
+ghost use Rattle.mb_frames.specs.Real.{HasRealNames};
 ghost use Rattle.mb_frames.specs.Ready.{Keeps};
 ghost use Rattle.mb_frames.specs.Sorts.{AValue};
 ghost use Rattle.mb_eval_expr.specs.machine.Keeping.{Leaving};
 ghost use Rattle.mb_frames.specs.declared.expressions.ExprFrame.TheVariants as TheFrame;
 
-use crate::conversions::key_from;
-use crate::errors::type_error;
 use crate::using::follow;
 use mb_base::{NodeId, Side, StrId, Value};
 use mb_frames::{After, Context, ExprFrame, Frame, Halt, Move, Reference, Task};
+use mb_parts::{key_from, type_error};
 use mb_world::World;
 use std::alloc::Global;
 

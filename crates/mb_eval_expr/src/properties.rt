@@ -10,8 +10,8 @@ ghost use Rattle.mb_eval_expr.specs.machine.Names.{unit_found};
 ghost use Rattle.mb_frames.specs.Passing.{TextsGrew};
 ghost use Rattle.mb_eval_expr.specs.machine.Keeping.{IsPlainValue};
 
-use crate::conversions::word;
 use mb_base::{Key, NoMemory, StrId, Value};
+use mb_parts::word;
 use mb_world::World;
 
 // The units of the text `length`.

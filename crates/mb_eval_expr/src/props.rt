@@ -1,46 +1,40 @@
 // Literals of objects (ECMA-262, 13.2.5).
-ghost use Rattle.std.specs.Prelude.{◌≡◌, ◌<◌, ◌+◌, ◌∷◌, ◌++◌, [], ℕ, IfOk, IfSome, None, Option, Some, drop, false, slice_get};
-ghost use Rattle.mb_base.specs.declared.value.Side.{Side as ASide};
-ghost use Rattle.mb_frames.specs.Grammatical.{HasItsParts};
+ghost use Rattle.std.specs.Prelude.{◌<◌, ◌+◌, ◌∷◌, [], IfOk, None, drop, slice_get};
 ghost use Rattle.mb_frames.specs.Held.{HeldDesc, HeldNode, HeldPlain, HeldValue};
 ghost use Rattle.mb_frames.specs.Holding.{expr_held};
-ghost use Rattle.mb_frames.specs.Kinds.{is_object_form, is_prop_form};
+ghost use Rattle.mb_frames.specs.Kinds.{is_object_form};
 ghost use Rattle.mb_frames.specs.Passing.{Part};
 ghost use Rattle.mb_frames.specs.Ready.{Changed, Holds, IsReady, Keeps, Leaves, LeavesBy};
 ghost use Rattle.mb_frames.specs.Resolved.{context_in};
 ghost use Rattle.mb_frames.specs.Rest.Expressions.{prop_keyed_at};
 ghost use Rattle.mb_frames.specs.Rest.Parts.{parts_at};
-ghost use Rattle.mb_frames.specs.Running.{CanRun};
 ghost use Rattle.mb_frames.specs.Sorts.{AValue};
 ghost use Rattle.mb_frames.specs.Standing.{forms_at};
-ghost use Rattle.mb_frames.specs.Told.{FormIn, IsNodeOf, NameIn, told_at};
 ghost use Rattle.mb_frames.specs.declared.expressions.ExprFrame.TheVariants as TheFrame;
 ghost use Rattle.mb_model.specs.Meaning.{finished};
 ghost use Rattle.mb_model.specs.Nodes.Literals.{prop_defined, prop_of, prop_value, props};
 ghost use Rattle.mb_model.specs.Operations.Conversions.{to_key};
 ghost use Rattle.mb_model.specs.Operations.Makings.{make_plain};
 ghost use Rattle.mb_model.specs.Writing.{◌>>=◌ as after_that};
-ghost use Rattle.mb_tree.specs.Seen.{seen, seen_name};
-ghost use Rattle.mb_world.specs.Data.{Data};
 ghost use Rattle.mb_world.specs.Ids.{KeyIn, Maybe};
 ghost use Rattle.mb_world.specs.Image.{Resolve, desc_in, key_in, names_of, object_in};
 ghost use Rattle.mb_world.specs.Standard.{object_prototype};
 ghost use Rattle.mb_eval_expr.specs.machine.Keeping.{context_held};
-ghost use Rattle.mb_eval_expr.specs.machine.Literals.{Defines, HasItsNodes, IsDefinitionAt, IsMethodOf, IsProp, described_by, literal_held};
-ghost use Rattle.mb_eval_expr.specs.machine.Standing.{Acts, ContextIn};
+ghost use Rattle.mb_eval_expr.specs.machine.Literals.{Defines, IsDefinitionAt, IsMethodOf, literal_held};
+ghost use Rattle.mb_parts.specs.Standing.{Acts, ContextIn};
 ghost use Rattle.mb_eval_expr.specs.machine.Storing.{Stores};
 
-use crate::conversions::{digits, key_from};
+use crate::definitions::{Definition, definition_at, method_desc};
 use crate::elements::open_desc;
-use crate::errors::{throws, type_error};
 use crate::functions::keyed_function;
 use crate::giving::value;
 use crate::making::make_plain;
 use mb_base::{Fuel, Key, NodeId, ObjId, Side, Value};
 use mb_desc::Desc;
-use mb_frames::{Context, ExprFrame, Frame, Halt, Move, Task, count_of, form_at, part_at};
+use mb_frames::{Context, ExprFrame, Frame, Halt, Move, Task, count_of, part_at};
 use mb_ordinary::define;
-use mb_tree::{Form, PropName};
+use mb_parts::{digits, key_from, throws, type_error};
+use mb_tree::PropName;
 use mb_world::{ErrorKind, World};
 
 // The units of what stands before the names of getters and setters.
@@ -55,15 +49,6 @@ pub(crate) struct Literal {
     pub node: NodeId,
     pub object: ObjId,
     pub place: u32,
-}
-
-// What a property has: the node of its value, or so many Params.
-#[derive(Clone, Copy)]
-enum Definition {
-    Value(NodeId),
-    Method(usize),
-    Getter(usize),
-    Setter(usize),
 }
 
 // An object literal begins.
@@ -132,39 +117,6 @@ fn props_from(
         }
     }
     Ok(value(Value::Object(literal.object)))
-}
-
-// How a property is named, and what it has; `None` for a node that is none.
-fn definition_of(form: Form<'_>) -> Option<(PropName, Definition)>
-    ensures prop { (home : ASide) (d : Data) →
-        IfSome result (λ p. IsProp d (Some (told_at d home (seen form.entry))) p.0 p.1) }
-    ensures none { result ≡ None → (home : ASide) (d : Data) →
-        is_prop_form (Some (told_at d home (seen form.entry))) ≡ false }
-    ensures names { (d : Data) → FormIn d (seen form.entry) → IfSome result (λ p. NameIn d (seen_name p.0)) }
-    ensures nodes { (home : ASide) (d : Data) → HasItsParts (IsNodeOf d home) (seen form.entry) →
-        IfSome result (λ p. HasItsNodes d home p.0 p.1) }
-{
-    match form {
-        Form::Value { key, value } => Some((key, Definition::Value(value))),
-        Form::Method { key, parts } => Some((key, Definition::Method(parts.params.len()))),
-        Form::Getter { key, parts } => Some((key, Definition::Getter(parts.params.len()))),
-        Form::Setter { key, parts } => Some((key, Definition::Setter(parts.params.len()))),
-        _ => None,
-    }
-}
-
-// So of a node.
-fn definition_at(w: &World, home: Side, property: NodeId) -> Option<(PropName, Definition)>
-    requires { CanRun w.now home }
-    ensures prop { IfSome result (λ p. IsProp w.now (slice_get (forms_at w.now home) property.0) p.0 p.1) }
-    ensures none { result ≡ None → is_prop_form (slice_get (forms_at w.now home) property.0) ≡ false }
-    ensures names { IfSome result (λ p. NameIn w.now (seen_name p.0)) }
-    ensures nodes { IfSome result (λ p. HasItsNodes w.now home p.0 p.1) }
-{
-    match form_at(w, home, property) {
-        Some(form) => definition_of(form),
-        None => None,
-    }
 }
 
 // A property begins: the move where it waits for a part or throws, `None` where it was defined.
@@ -295,31 +247,6 @@ fn prop_method(
             let step = throws(w, home, ErrorKind::RangeError)?;
             Ok(Some(step))
         }
-    }
-}
-
-// The descriptor of a method, getter or setter.
-fn method_desc(definition: Definition, function: Value) -> Desc<Value>
-    ensures { result ≡ described_by definition function }
-{
-    match definition {
-        Definition::Getter(_) => Desc {
-            value: None,
-            writable: None,
-            get: Some(function),
-            set: None,
-            enumerable: Some(true),
-            configurable: Some(true),
-        },
-        Definition::Setter(_) => Desc {
-            value: None,
-            writable: None,
-            get: None,
-            set: Some(function),
-            enumerable: Some(true),
-            configurable: Some(true),
-        },
-        _ => open_desc(function),
     }
 }
 

@@ -13,7 +13,8 @@ ghost use Rattle.mb_world.specs.Data.{Data};
 ghost use Rattle.mb_world.specs.Ids.{ValueIn};
 ghost use Rattle.mb_world.specs.Image.{Resolve, names_of};
 ghost use Rattle.mb_eval_expr.specs.machine.Resuming.{Takes, is_assigning, is_literal, takes_value, value_held};
-ghost use Rattle.mb_eval_expr.specs.machine.Standing.{Acts, HasRealNames};
+ghost use Rattle.mb_parts.specs.Standing.{Acts};
+ghost use Rattle.mb_frames.specs.Real.{HasRealNames};
 ghost use Rattle.mb_frames.specs.Ready.{Keeps};
 ghost use Rattle.mb_frames.specs.Sorts.{AValue};
 

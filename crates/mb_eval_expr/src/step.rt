@@ -8,10 +8,13 @@ ghost use Rattle.mb_frames.specs.Standing.{at_home, row_of, under_way};
 ghost use Rattle.mb_frames.specs.Stepping.{PutsNone, Step, Steps, Written, written};
 ghost use Rattle.mb_model.specs.Meaning.{row};
 ghost use Rattle.mb_world.specs.Image.{names_of};
-ghost use Rattle.mb_eval_expr.specs.Ours.{IsExpressionFrame, IsExpressionTask, IsGiven, IsOnTop};
-ghost use Rattle.mb_eval_expr.specs.machine.Standing.{Acts, HasRealNames};
+ghost use Rattle.mb_eval_expr.specs.Ours.{IsExpressionFrame, IsExpressionTask};
+ghost use Rattle.mb_eval_expr.specs.machine.Resuming.{IsGiven};
+ghost use Rattle.mb_parts.specs.Top.{IsOnTop};
+ghost use Rattle.mb_parts.specs.Standing.{Acts};
+ghost use Rattle.mb_frames.specs.Real.{HasRealNames};
 ghost use Rattle.mb_frames.specs.Sorts.{AValue};
-ghost use Rattle.mb_frames.specs.Wholeness.{StepsKept};
+ghost use Rattle.mb_frames.specs.Wholeness.{StaysFound, StepsKept};
 
 use crate::beginning::begin;
 use crate::operators::chain;
@@ -35,6 +38,7 @@ pub fn step_expr(
     ensures steps { Steps result m.old m.new w.old w.new fuel.old fuel.new (written lines.old) (written lines.new) }
     ensures ready { ReadyAfter result w.new m.new }
     ensures kept { StepsKept result m.old m.new w.old w.new }
+    ensures found { StaysFound w.old w.new }
 {
     match m.pop() {
         Some(top) => {

@@ -1,5 +1,5 @@
 // References that are read (ECMA-262, 6.2.5), and what follows.
-ghost use Rattle.std.specs.Prelude.{◌≡◌, ℕ, [], ◌∷◌, ◌++◌};
+ghost use Rattle.std.specs.Prelude.{ℕ, [], ◌∷◌, ◌++◌};
 ghost use Rattle.mb_frames.specs.Held.{AreIn, HeldValue, HeldKey};
 ghost use Rattle.mb_frames.specs.Holding.{after_held, reference_held, expr_held};
 ghost use Rattle.mb_frames.specs.Resolved.{context_in, reference_in};
@@ -14,7 +14,8 @@ ghost use Rattle.mb_model.specs.Writing.{◌>>=◌ as after_that};
 ghost use Rattle.mb_world.specs.Ids.{KeyIn, ValueIn};
 ghost use Rattle.mb_world.specs.Image.{Resolve, key_in, names_of};
 ghost use Rattle.mb_frames.specs.Passing.{Part};
-ghost use Rattle.mb_eval_expr.specs.machine.Standing.{Acts, ContextIn, HasRealNames, IsReal};
+ghost use Rattle.mb_parts.specs.Standing.{Acts, ContextIn};
+ghost use Rattle.mb_frames.specs.Real.{HasRealNames, IsReal};
 ghost use Rattle.mb_eval_expr.specs.machine.Uses.{UseIn, used, use_frame};
 ghost use Rattle.mb_frames.specs.Ready.{Keeps};
 ghost use Rattle.mb_frames.specs.Sorts.{AValue};
@@ -22,13 +23,13 @@ ghost use Rattle.mb_eval_expr.specs.machine.Keeping.{context_held};
 
 use crate::assignments::{compound_old, update_old};
 use crate::calls::callee_got;
-use crate::errors::{throws, type_error};
 use crate::giving::{asks, value};
 use crate::names::value_of;
 use crate::properties::text_property;
 use crate::uses::{Use, frame_of};
 use mb_base::{Key, Side, Value};
 use mb_frames::{After, Context, ExprFrame, Frame, Halt, Method, Move, Reference, Task};
+use mb_parts::{throws, type_error};
 use mb_world::{ErrorKind, World};
 use std::alloc::Global;
 

@@ -26,7 +26,7 @@ use Rattle.mb_world.specs.Ids.{HasItsIds, ScopeIn}
 use Rattle.mb_world.specs.Image.{Image, names_of}
 use Rattle.mb_eval_stmt.proofs.Rows.{ContextIn-entered, Sure-entered, entering, forms-entered, inside, lets-are}
 use Rattle.mb_frames.specs.Going.{Enters}
-use Rattle.mb_eval_stmt.specs.machine.Plain.{ContextIn}
+use Rattle.mb_parts.specs.Standing.{ContextIn}
 
 -- what follows the first part
 abbrev begun-by : List Form → AContext → ℕ → Option ℕ → Option ℕ → Option ℕ → ℕ → Does Answer
@@ -50,7 +50,8 @@ pub Step-row : (home : Side) (begun : Bool) (r : Result Move Halt) (d d' : Data)
     (at : Context) (node : NodeId) (first test last : Option ℕ) (body : ℕ) → home.0 < d.sides
     → Step home begun r d d' f f' l l'
     (entering-row (forms_at d home) (context_in (names_of d) home.0 at) node.0 first test last body finished)
-    → Step home begun r d d' f f' l l' (for_row (context_in (names_of d) home.0 at) node.0 first test last body finished)
+    → Step home begun r d d' f f' l l' (for_row (context_in (names_of d) home.0 at) node.0 first test last body
+    finished)
 Step-row home begun r d d' f f' l l' at node first test last body h s =
     let c : AContext = context_in (names_of d) home.0 at in
     Step-by home begun r d d' f f' l l' (for_row c node.0 first test last body finished)
@@ -61,13 +62,15 @@ Step-row home begun r d d' f f' l l' at node first test last body h s =
     ap (λ (b : Bool). go b finished (Image d log)) (lets-are d home log first h)) s
 
 -- the first part begins
-pub Step-first : (home : Side) (begun : Bool) (d d1 : Data) (f f1 : ℕ) (l : Written) (at : Context) (node first : NodeId)
+pub Step-first : (home : Side) (begun : Bool) (d d1 : Data) (f f1 : ℕ) (l : Written) (at : Context)
+    (node first : NodeId)
     (test last : Option ℕ) (body : ℕ) (id : ScopeId) → HasItsIds d → ContextIn d at
     → slice_get (forms_at d home) node.0 ≡ Some (ForForm (Some first.0) test last body)
     → Enters (Ok id) d d1 f f1
     (enter_if (context_in (names_of d) home.0 at) (lets_of (forms_at d home) (Some first.0)) node.0)
     → ScopeIn d1 id
-    → Step home begun (Ok (move.Wait (x.Stmt (t.ForFirst (inside at id) node)) (task.Evaluate first (inside at id)))) d d1 f f1 l l
+    → Step home begun (Ok (move.Wait (x.Stmt (t.ForFirst (inside at id) node)) (task.Evaluate first (inside at id))))
+    d d1 f f1 l l
     (entering-row (forms_at d home) (context_in (names_of d) home.0 at) node.0 (Some first.0) test last body finished)
 Step-first home begun d d1 f f1 l at node first test last body id i h e q s =
     let fs : List Form = forms_at d home in
@@ -76,7 +79,8 @@ Step-first home begun d d1 f f1 l at node first test last body id i h e q s =
     let c1 : AContext = context_in (names_of d1) home.0 (inside at id) in
     let g : forms_at d1 home ≡ fs = forms-entered d d1 home id f f1 p i q in
     let z : for_first_done (forms_at d1 home) c1 node.0 ≡ begun-by fs c1 node.0 (Some first.0) test last body
-    = ap (λ (xs : List Form). for_first_done xs c1 node.0) g ∙ first-done fs c1 node.0 (Some first.0) test last body e in
+    = ap (λ (xs : List Form). for_first_done xs c1 node.0) g ∙ first-done fs c1 node.0 (Some first.0) test last body
+    e in
     Sure-entered home begun d d1 f f1 l at id p (λ c. after-scope fs c node.0 (Some first.0) test last body)
     (move.Wait (x.Stmt (t.ForFirst (inside at id) node)) (task.Evaluate first (inside at id))) q h.1
     (Sure-wait home d1 (x.Stmt (t.ForFirst (inside at id) node)) (task.Evaluate first (inside at id))

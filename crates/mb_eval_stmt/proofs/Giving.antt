@@ -1,20 +1,26 @@
 -- Declarations that are given their values in turn.
-use Rattle.std.proofs.Common.{◌+◌, ◌++◌, ◌<◌, ◌≡◌, ◌≤◌, ◌∙◌, ◌∷◌, Bool, Err, List, None, Ok, Option, Result, Some, [], ap, arith, drop, length, refl, slice_get, subst, suc, sym, true, zero, ℕ}
+use Rattle.std.proofs.Common.{◌+◌, ◌++◌, ◌<◌, ◌≡◌, ◌≤◌, ◌∙◌, ◌∷◌, Bool, Err, List, None, Ok, Option, Result, Some, [], ap, arith, drop, length, refl, slice_get, subst, sym, true, ℕ}
 use Rattle.std.proofs.Math.ListN.{drop_of_length-le}
 use Rattle.mb_base.specs.declared.value.NodeId.{NodeId}
 use Rattle.mb_base.specs.declared.value.ScopeId.{ScopeId}
 use Rattle.mb_base.specs.declared.value.Side.{Side}
 use Rattle.mb_base.specs.declared.value.StrId.{StrId}
+use Rattle.mb_eval_stmt.proofs.Rows.{ContextIn-entered, Sure-nothing, entering, forms-entered, inside}
+use Rattle.mb_parts.specs.Standing.{ContextIn}
+use Rattle.mb_frames.proofs.Forms.{context-grows, forms-are, forms-grow}
+use Rattle.mb_frames.proofs.Going.{Step-after, WentOn-free}
+use Rattle.mb_frames.proofs.Passed.{puts-none}
 use Rattle.mb_frames.proofs.Steps.{Grew-then, Step-sure, Sure-by, drop-at}
+use Rattle.mb_frames.specs.Going.{Changes, Enters, WentOn, paying}
 use Rattle.mb_frames.specs.Resolved.{context_in}
 use Rattle.mb_frames.specs.Rest.Parts.{parts_at}
 use Rattle.mb_frames.specs.Standing.{forms_at}
 use Rattle.mb_frames.specs.Stepping.{Grew, PutsNone, Step, Sure, Written}
 use Rattle.mb_frames.specs.declared.frame.Frame.TheVariants as x
-use Rattle.mb_frames.specs.declared.frame.Move.{Move}
 use Rattle.mb_frames.specs.declared.frame.Move.TheVariants as move
-use Rattle.mb_frames.specs.declared.machine.Halt.{Halt}
+use Rattle.mb_frames.specs.declared.frame.Move.{Move}
 use Rattle.mb_frames.specs.declared.machine.Halt.TheVariants.{NoMemory, Spent as SpentHalt}
+use Rattle.mb_frames.specs.declared.machine.Halt.{Halt}
 use Rattle.mb_frames.specs.declared.statements.StmtFrame.TheVariants as t
 use Rattle.mb_frames.specs.declared.task.Answer.TheVariants as a
 use Rattle.mb_frames.specs.declared.task.Context.{Context}
@@ -23,24 +29,18 @@ use Rattle.mb_frames.specs.declared.task.Task.TheVariants as task
 use Rattle.mb_model.specs.Engine.{exec}
 use Rattle.mb_model.specs.Meaning.{finished}
 use Rattle.mb_model.specs.Nodes.Evaluation.{Context as AContext}
-use Rattle.mb_model.specs.Nodes.Statements.{decl_of, give_each, run_each, run_scoped}
 use Rattle.mb_model.specs.Nodes.Scopes.{declare, enter_scope, form_at}
+use Rattle.mb_model.specs.Nodes.Statements.{decl_of, give_each, run_each, run_scoped}
 use Rattle.mb_model.specs.Task.{Answer, Nothing}
 use Rattle.mb_model.specs.Trace.Entries.{entries}
 use Rattle.mb_model.specs.Writing.{◌>>=◌, Does, Row}
+use Rattle.mb_eval_stmt.specs.machine.Declaring.{Declares, Waits}
 use Rattle.mb_world.proofs.Grow.{ScopeIn-grows, ValueIn-grows}
 use Rattle.mb_world.specs.Data.{Data}
 use Rattle.mb_world.specs.Form.{DeclForm, Form}
 use Rattle.mb_world.specs.Graph.{Graph, Item}
 use Rattle.mb_world.specs.Ids.{HasItsIds, ScopeIn, TextIn}
 use Rattle.mb_world.specs.Image.{Image, entries_in, names_of, text_in}
-use Rattle.mb_frames.proofs.Forms.{context-grows, forms-are, forms-grow}
-use Rattle.mb_frames.proofs.Going.{Step-after, WentOn-free}
-use Rattle.mb_frames.proofs.Passed.{puts-none}
-use Rattle.mb_eval_stmt.proofs.Rows.{ContextIn-entered, Sure-nothing, entering, forms-entered, inside}
-use Rattle.mb_eval_stmt.specs.machine.Declaring.{Declares, Waits}
-use Rattle.mb_frames.specs.Going.{Changes, Enters, WentOn, paying}
-use Rattle.mb_eval_stmt.specs.machine.Plain.{ContextIn}
 
 -- a step in a world to which the part came, with nothing charged
 pub Step-moved : (home : Side) (begun : Bool) (r : Result Move Halt) (d d1 d2 : Data) (f f2 : ℕ) (l l2 : Written)
@@ -75,7 +75,8 @@ each-of : (d : Data) (home : Side) (c : AContext) (decl : ℕ) (rest : List ℕ)
     ≡ decl_of c (slice_get (forms_at d home) decl) (λ a. give_each c rest finished) (Image d log)
 each-of d home c decl rest log h e =
     ap (λ (s : ℕ). decl_of c (form_at (Image d log) s decl) (λ a. give_each c rest finished) (Image d log)) e
-    ∙ ap (λ (fs : List Form). decl_of c (slice_get fs decl) (λ a. give_each c rest finished) (Image d log)) (forms-are d home log h)
+    ∙ ap (λ (fs : List Form). decl_of c (slice_get fs decl) (λ a. give_each c rest finished) (Image d log))
+    (forms-are d home log h)
 
 -- one is given, and the next ones follow
 pub one-given : (d d' : Data) (home : Side) (c : AContext) (decl : ℕ) (rest : List ℕ) (log : List Item)
@@ -120,7 +121,8 @@ pub Step-declared : (home : Side) (begun : Bool) (r : Result Move Halt) (d d1 d2
     → ((b : Bool) → Step home b r d1 d2 f f l l
     (give_each (context_in (names_of d1) home.0 at) (drop next (parts_at (forms_at d1 home) node.0)) finished))
     → Step home begun r d d2 f f l l
-    ((p >>= (λ a. give_each (context_in (names_of d) home.0 at) (drop next (parts_at (forms_at d home) node.0)))) finished)
+    ((p >>= (λ a. give_each (context_in (names_of d) home.0 at) (drop next (parts_at (forms_at d home) node.0))))
+    finished)
 Step-declared home begun r d d1 d2 f l at node next p i h q s =
     let c : AContext = context_in (names_of d) home.0 at in
     let c1 : AContext = context_in (names_of d1) home.0 at in
@@ -152,23 +154,22 @@ Step-scoped home begun r d d1 d2 f f1 l at node id i j h q z m s =
     let c1 : AContext = context_in (names_of d1) home.0 (inside at id) in
     let c2 : AContext = context_in (names_of d2) home.0 (inside at id) in
     let k : ContextIn d1 (inside at id) = ContextIn-entered d d1 at id f f1 p q z h in
-    let n : PutsNone r = puts-none home r d2 d2 f1 f1 l l (run_each c2 (parts_at (forms_at d2 home) node.0) finished) (s true) in
+    let n : PutsNone r = puts-none home r d2 d2 f1 f1 l l (run_each c2 (parts_at (forms_at d2 home) node.0) finished)
+    (s true) in
     let after : Step home begun r d2 d2 f1 f1 l l (run_each c1 ps1 finished)
     = subst (λ (fs : List Form). Step home begun r d2 d2 f1 f1 l l (run_each c1 (parts_at fs node.0) finished)) e2
-    (subst (λ (x : AContext). Step home begun r d2 d2 f1 f1 l l (run_each x (parts_at (forms_at d2 home) node.0) finished))
+    (subst (λ (x : AContext). Step home begun r d2 d2 f1 f1 l l (run_each x (parts_at (forms_at d2 home) node.0)
+    finished))
     (context-grows d1 d2 home (inside at id) k.1 m.grew) (s begun)) in
     let body : Step home begun r d1 d2 f1 f1 l l ((declare home.0 id.0 ps1 >>= (λ a. run_each c1 ps1)) finished)
-    = Step-after Answer home begun r d1 d2 d2 f1 f1 f1 l l (declare home.0 id.0 ps1) Nothing (λ a. run_each c1 ps1 finished)
+    = Step-after Answer home begun r d1 d2 d2 f1 f1 f1 l l (declare home.0 id.0 ps1) Nothing
+    (λ a. run_each c1 ps1 finished)
     (WentOn-free Answer d1 d2 f1 (declare home.0 id.0 ps1) Nothing m) n after in
     entering home begun r d d1 d2 f f1 f1 l l at id p (λ c. declare c.side c.scope ps >>= (λ a. run_each c ps)) q h.1 n
-    (subst (λ (fs : List Form). Step home begun r d1 d2 f1 f1 l l ((declare home.0 id.0 (parts_at fs node.0) >>= (λ a. run_each c1 (parts_at fs node.0))) finished)) e1 body)
+    (subst (λ (fs : List Form). Step home begun r d1 d2 f1 f1 l l
+    ((declare home.0 id.0 (parts_at fs node.0) >>= (λ a. run_each c1 (parts_at fs node.0))) finished)) e1 body)
 
 -- ---- the loop over the declarations
-
-pub not-past : {A : Type 0} (xs : List A) (i : ℕ) → None ≡ slice_get xs i → i < length xs → ⊥
-not-past [] i e h = omega (arith, h)
-not-past (x ∷ xs) zero e h = cc
-not-past (x ∷ xs) (suc i) e h = not-past xs i e (omega (arith, h))
 
 pub parts-grow : (d d' : Data) (home : Side) (node : NodeId) → HasItsIds d → Grew d d'
     → parts_at (forms_at d' home) node.0 ≡ parts_at (forms_at d home) node.0
@@ -196,8 +197,10 @@ given-of o d d' form c e h =
 module _ (home : Side) (d0 d : Data) (at : Context) (node : NodeId) (next place : ℕ) (ids0 : HasItsIds d0)
     (h : ContextIn d0 at) (takes : home.0 < d0.sides) (g : Grew d0 d) (n : entries_in d ≡ entries_in d0)
     (same : (log : List Item) →
-    give_each (context_in (names_of d0) home.0 at) (drop next (parts_at (forms_at d0 home) node.0)) finished (Image d0 log)
-    ≡ give_each (context_in (names_of d0) home.0 at) (drop place (parts_at (forms_at d0 home) node.0)) finished (Image d log))
+    give_each (context_in (names_of d0) home.0 at) (drop next (parts_at (forms_at d0 home) node.0)) finished
+    (Image d0 log)
+    ≡ give_each (context_in (names_of d0) home.0 at) (drop place (parts_at (forms_at d0 home) node.0)) finished
+    (Image d log))
   where
     pub still-takes : home.0 < d.sides
     still-takes = omega (arith, takes, g.sides)
@@ -219,8 +222,10 @@ module _ (home : Side) (d0 d : Data) (at : Context) (node : NodeId) (next place 
         (Step-moved home begun (Ok m) d0 d d f f l l p (give_each c (drop place ps) finished)
         (λ log.
         same log
-        ∙ ap (λ (y : AContext). give_each y (drop place ps0) finished (Image d log)) (sym (context-grows d0 d home at h.1 g))
-        ∙ ap (λ (ns : List ℕ). give_each c (drop place ns) finished (Image d log)) (sym (parts-grow d0 d home node ids0 g)))
+        ∙ ap (λ (y : AContext). give_each y (drop place ps0) finished (Image d log))
+        (sym (context-grows d0 d home at h.1 g))
+        ∙ ap (λ (ns : List ℕ). give_each c (drop place ns) finished (Image d log))
+        (sym (parts-grow d0 d home node ids0 g)))
         n g
         (Step-sure home begun d (give_each c (drop place ps) finished) m f l
         (one-waits d home at node value name decl place nx still-takes i w.text e w.there k)))
@@ -231,15 +236,20 @@ module _ (home : Side) (d0 d : Data) (at : Context) (node : NodeId) (next place 
     Step-all begun f l e =
         let c0 : AContext = context_in (names_of d0) home.0 at in
         let ps0 : List ℕ = parts_at (forms_at d0 home) node.0 in
-        Step-moved home begun (Ok (move.Done (o.Normal a.Nothing))) d0 d d f f l l (give_each c0 (drop next ps0) finished)
+        Step-moved home begun (Ok (move.Done (o.Normal a.Nothing))) d0 d d f f l l
+        (give_each c0 (drop next ps0) finished)
         (give_each c0 [] finished)
         (λ log. same log ∙ ap (λ (ns : List ℕ). give_each c0 ns finished (Image d log)) (drop_of_length-le ps0 e)) n g
         (Step-sure home begun d (give_each c0 [] finished) (move.Done (o.Normal a.Nothing)) f l (Sure-nothing home d))
 
-    pub given-more : (d' : Data) (decl : ℕ) (log : List Item) → slice_get (parts_at (forms_at d home) node.0) place ≡ Some decl
-        → WentOn Answer d d' 0 0 (decl_of (context_in (names_of d0) home.0 at) (slice_get (forms_at d home) decl)) Nothing
-        → give_each (context_in (names_of d0) home.0 at) (drop next (parts_at (forms_at d0 home) node.0)) finished (Image d0 log)
-        ≡ give_each (context_in (names_of d0) home.0 at) (drop (place + 1) (parts_at (forms_at d0 home) node.0)) finished (Image d' log)
+    pub given-more : (d' : Data) (decl : ℕ) (log : List Item) → slice_get (parts_at (forms_at d home) node.0) place
+        ≡ Some decl
+        → WentOn Answer d d' 0 0 (decl_of (context_in (names_of d0) home.0 at) (slice_get (forms_at d home) decl))
+        Nothing
+        → give_each (context_in (names_of d0) home.0 at) (drop next (parts_at (forms_at d0 home) node.0)) finished
+        (Image d0 log)
+        ≡ give_each (context_in (names_of d0) home.0 at) (drop (place + 1) (parts_at (forms_at d0 home) node.0))
+        finished (Image d' log)
     given-more d' decl log e q =
         let c0 : AContext = context_in (names_of d0) home.0 at in
         let ps0 : List ℕ = parts_at (forms_at d0 home) node.0 in

@@ -1,34 +1,27 @@
 -- Parts of statements keep a world ready one after the other, and what may be held is held on.
-use Rattle.std.proofs.Common.{◌<◌, ◌≡◌, ◌∷◌, Err, List, None, Ok, Option, Result, Some, [], ap, false, refl, sym, true, true≢false, ℕ}
+use Rattle.std.proofs.Common.{◌<◌, ◌≡◌, None, Ok, Option, Result, Some, refl, sym, true, true≢false}
 use Rattle.std.specs.Prelude.{IsSomeAnd}
-use Rattle.std.proofs.lemmas.List.Elements.{All-nil}
 use Rattle.mb_base.specs.declared.value.NodeId.{NodeId}
 use Rattle.mb_base.specs.declared.value.ScopeId.{ScopeId}
 use Rattle.mb_base.specs.declared.value.Side.{Side}
-use Rattle.mb_base.specs.declared.value.StrId.{StrId}
+use Rattle.mb_eval_stmt.proofs.Rows.{IsFor-grows, inside}
+use Rattle.mb_eval_stmt.specs.declared.fors.ForParts.{ForParts}
+use Rattle.mb_eval_stmt.specs.machine.Keeping.{context_held}
+use Rattle.mb_eval_stmt.specs.machine.Plain.{IsFor}
 use Rattle.mb_frames.proofs.Forms.{forms-grow}
+use Rattle.mb_frames.proofs.Keeping.{inside-still}
 use Rattle.mb_frames.proofs.Leaving.{holds-still}
 use Rattle.mb_frames.proofs.Readying.{changed-same, changed-then}
-use Rattle.mb_frames.specs.Held.{Held, HeldNode, HeldScope, HeldText, HeldTextIf}
-use Rattle.mb_frames.specs.Making.{is_function_of}
+use Rattle.mb_frames.specs.Keeping.{KeepsAnswer, scope_held}
 use Rattle.mb_frames.specs.Kinds.{Statement, form_sort, is_for_form, is_list_form, is_try_form}
-use Rattle.mb_frames.specs.Ready.{Changed, Holds, IsReady, KeepsBy, Leaves, LeavesBy, MayHold}
+use Rattle.mb_frames.specs.Ready.{Changed, Holds, IsReady, KeepsBy, Leaves, LeavesBy}
 use Rattle.mb_frames.specs.Sorts.{ACompletion}
 use Rattle.mb_frames.specs.Told.{sort_of_parts}
 use Rattle.mb_frames.specs.declared.frame.Move.{Move}
 use Rattle.mb_frames.specs.declared.machine.Halt.{Halt}
 use Rattle.mb_frames.specs.declared.task.Context.{Context}
-use Rattle.mb_world.specs.Contained.{IsOwn}
 use Rattle.mb_world.specs.Data.{Data}
 use Rattle.mb_world.specs.Form.{BlockForm, ForForm, Form, ScriptForm, TryForm}
-use Rattle.mb_world.specs.Ids.{TextIn}
-use Rattle.mb_frames.proofs.Keeping.{node-held, inside-still}
-use Rattle.mb_eval_stmt.proofs.Rows.{IsFor-grows, inside}
-use Rattle.mb_eval_stmt.specs.declared.fors.ForParts.{ForParts}
-use Rattle.mb_frames.specs.Keeping.{KeepsAnswer, scope_held}
-use Rattle.mb_eval_stmt.specs.machine.Keeping.{context_held}
-use Rattle.mb_eval_stmt.specs.machine.Declaring.{IsDeclared}
-use Rattle.mb_eval_stmt.specs.machine.Plain.{IsFor}
 
 -- ---- nodes by their forms
 
@@ -54,9 +47,6 @@ list-parts (Some (ScriptForm ns)) h = refl
 list-parts (Some (BlockForm ns)) h = refl
 list-parts (Some _) h = absurd (true≢false (sym h))
 
-pub text-held : (d : Data) (home : Side) (name : StrId) → TextIn d name → MayHold d home (HeldText name)
-text-held d home name h = record { within = h; sound = tt; own = λ u. All-nil (IsOwn d home) }
-
 -- ---- one after the other
 
 pub keeps-by : (home : Side) (d : Data) (r : Result Move Halt) → IsReady d → LeavesBy d home ACompletion r
@@ -70,18 +60,6 @@ keeps-same home d m i h = record { changed = changed-same home d i; leaves = h }
 pub keeps-then : (home : Side) (r : Result Move Halt) (d d1 d2 : Data) → Changed home d d1
     → KeepsBy home ACompletion r d1 d2 → KeepsBy home ACompletion r d d2
 keeps-then home r d d1 d2 h k = record { changed = changed-then home d d1 d2 h k.changed; leaves = k.leaves }
-
-pub keeps-halts : {A : Type 0} (f : A → List Held) (home : Side) (halt : Halt) (d d1 : Data)
-    → KeepsAnswer home f (Err halt) d d1 → KeepsBy home ACompletion (Err halt) d d1
-keeps-halts f home halt d d1 h = record { changed = h.changed; leaves = tt }
-
-pub answer-halts : {A B : Type 0} (f : A → List Held) (g : B → List Held) (home : Side) (halt : Halt) (d d1 : Data)
-    → KeepsAnswer home f (Err halt) d d1 → KeepsAnswer home g (Err halt) d d1
-answer-halts f g home halt d d1 h = record { changed = h.changed; holds = tt }
-
-pub answer-then : {A : Type 0} (f : A → List Held) (home : Side) (r : Result A Halt) (d d1 d2 : Data)
-    → Changed home d d1 → KeepsAnswer home f r d1 d2 → KeepsAnswer home f r d d2
-answer-then f home r d d1 d2 h k = record { changed = changed-then home d d1 d2 h k.changed; holds = k.holds }
 
 pub context-entered : (home : Side) (d d1 : Data) (at : Context) (id : ScopeId) → IsReady d
     → Holds d home (context_held at) → KeepsAnswer home scope_held (Ok id) d d1
@@ -103,16 +81,3 @@ pub for-after : (home : Side) (d d1 : Data) (node : NodeId) (parts : ForParts) �
     → IsFor d home node parts → IsFor d1 home node parts
 for-after home d d1 node parts r k q =
     IsFor-grows d d1 home node parts (forms-grow d d1 home r.ids k.found.grew) q
-
--- what stands in the function of a declaration
-pub made-of : (d : Data) (home : Side) (scope : ScopeId) (statement : NodeId) (name : StrId) (params : ℕ)
-    → IsDeclared d home statement name params → MayHold d home (HeldScope scope)
-    → Holds d home (HeldScope scope ∷ HeldNode (is_function_of true false) statement.0 ∷ HeldTextIf (Some name) ∷
-    HeldText name ∷ [])
-made-of d home scope statement name params q h = (
-  h,
-  (
-    node-held d home (is_function_of true false) statement.0 (ap (is_function_of true false) q.there),
-    (record { within = q.text; sound = tt; own = λ u. All-nil (IsOwn d home) }, (text-held d home name q.text, tt)),
-  ),
-)

@@ -56,7 +56,7 @@ module _ (d : Data) (home : Side) where
       → is_evaluated (slice_get (forms_at d home) node.0) ≡ true
       → Leaves d home ACompletion (move.Wait (x.Stmt y) (task.Evaluate node at))
   waits-any y node at e h k s =
-      leaves-wait d home ACompletion (x.Stmt y) (task.Evaluate node at) h (begins node at k s)
+      leaves-wait d home ACompletion (x.Stmt y) (task.Evaluate node at) h (begins node at k s) tt tt
       (rw e (completes (task_gives (forms_at d home) (task.Evaluate node at))), refl)
 
   -- an expression
@@ -66,5 +66,5 @@ module _ (d : Data) (home : Side) where
       → Leaves d home ACompletion (move.Wait (x.Stmt y) (task.Evaluate node at))
   waits-value y node at e h k s =
       leaves-wait d home ACompletion (x.Stmt y) (task.Evaluate node at) h
-      (begins node at k (expression-evaluated (slice_get (forms_at d home) node.0) s))
+      (begins node at k (expression-evaluated (slice_get (forms_at d home) node.0) s)) tt tt
       (rw (e, expression-gives (slice_get (forms_at d home) node.0) s) refl, refl)

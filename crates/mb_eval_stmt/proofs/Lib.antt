@@ -4,10 +4,8 @@ pub mod Rows
 pub mod ForRows
 pub mod TryRows
 pub mod Giving
-pub mod Declaring
 pub mod Resting
 pub mod Leaving
 pub mod Entering
 pub mod Keeping
-pub mod TopFrames
 pub mod Steadying

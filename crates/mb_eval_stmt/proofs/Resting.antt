@@ -30,11 +30,14 @@ use Rattle.mb_eval_stmt.specs.machine.Plain.{OutcomeIn, is_answered}
 -- an answer is taken by its value
 pub Step-rest : (home : Side) (r : Result Move Halt) (d d' : Data) (f f' : ℕ) (l l' : Written) (frame : StmtFrame)
     (answer : model.Answer) (v : Val) (q : Val → Does model.Answer)
-    → ((g : Graph) → stmt_rest (names_of d) (forms_at d home) home.0 frame (model.Normal answer) finished g ≡ q (value_in answer) finished g)
+    → ((g : Graph) → stmt_rest (names_of d) (forms_at d home) home.0 frame (model.Normal answer) finished g ≡ q
+    (value_in answer) finished g)
     → value_in answer ≡ v → Step home true r d d' f f' l l' (q v finished)
-    → Step home true r d d' f f' l l' (stmt_rest (names_of d) (forms_at d home) home.0 frame (model.Normal answer) finished)
+    → Step home true r d d' f f' l l' (stmt_rest (names_of d) (forms_at d home) home.0 frame (model.Normal answer)
+    finished)
 Step-rest home r d d' f f' l l' frame answer v q h e s =
-    Step-by home true r d d' f f' l l' (stmt_rest (names_of d) (forms_at d home) home.0 frame (model.Normal answer) finished)
+    Step-by home true r d d' f f' l l' (stmt_rest (names_of d) (forms_at d home) home.0 frame (model.Normal answer)
+    finished)
     (q v finished)
     (λ log. h (Image d log) ∙ ap (λ (x : Val). q x finished (Image d log)) e) s
 
@@ -131,17 +134,21 @@ Step-passed home d f l frame z i a h =
     (pass (outcome_in (names_of d) z) finished) (λ log. h (Image d log))
     (Step-sure home true d (pass (outcome_in (names_of d) z) finished) (move.Done z) f l (Sure-pass home d z i))
 
-pub Step-throws : (home : Side) (d : Data) (f : ℕ) (l : Written) (frame : StmtFrame) (x : Value) → OutcomeIn d (o.Throw x)
+pub Step-throws : (home : Side) (d : Data) (f : ℕ) (l : Written) (frame : StmtFrame) (x : Value) → OutcomeIn d
+    (o.Throw x)
     → is_answered frame ≡ true → Step home true (Ok (move.Done (o.Throw x))) d d f f l l
     (stmt_rest (names_of d) (forms_at d home) home.0 frame (outcome_in (names_of d) (o.Throw x)) finished)
 Step-throws home d f l frame x i a =
-    Step-passed home d f l frame (o.Throw x) i a (λ g. rest-throws (names_of d) (forms_at d home) home.0 frame (Resolve (names_of d) x) g a)
+    Step-passed home d f l frame (o.Throw x) i a (λ g. rest-throws (names_of d) (forms_at d home) home.0 frame
+    (Resolve (names_of d) x) g a)
 
-pub Step-returns : (home : Side) (d : Data) (f : ℕ) (l : Written) (frame : StmtFrame) (x : Value) → OutcomeIn d (o.Return x)
+pub Step-returns : (home : Side) (d : Data) (f : ℕ) (l : Written) (frame : StmtFrame) (x : Value) → OutcomeIn d
+    (o.Return x)
     → is_answered frame ≡ true → Step home true (Ok (move.Done (o.Return x))) d d f f l l
     (stmt_rest (names_of d) (forms_at d home) home.0 frame (outcome_in (names_of d) (o.Return x)) finished)
 Step-returns home d f l frame x i a =
-    Step-passed home d f l frame (o.Return x) i a (λ g. rest-returns (names_of d) (forms_at d home) home.0 frame (Resolve (names_of d) x) g a)
+    Step-passed home d f l frame (o.Return x) i a (λ g. rest-returns (names_of d) (forms_at d home) home.0 frame
+    (Resolve (names_of d) x) g a)
 
 pub Step-breaks : (home : Side) (d : Data) (f : ℕ) (l : Written) (frame : StmtFrame) → OutcomeIn d o.Break
     → is_answered frame ≡ true → Step home true (Ok (move.Done o.Break)) d d f f l l

@@ -1,20 +1,27 @@
 -- Parts of rows of statements: what a node's form tells of them, and what follows where a scope was entered.
-use Rattle.std.proofs.Common.{◌+◌, ◌<◌, ◌≡◌, ◌∙◌, ◌∷◌, Bool, List, None, Ok, Option, Result, Some, [], ap, drop, refl, slice_get, subst, suc, sym, true, zero, ℕ}
+use Rattle.std.proofs.Common.{◌+◌, ◌<◌, ◌≡◌, ◌∙◌, ◌∷◌, Bool, List, None, Ok, Option, Result, Some, [], ap, drop, refl, slice_get, subst, sym, true, ℕ}
 use Rattle.std.specs.Prelude.{IsSomeAnd}
 use Rattle.mb_base.specs.declared.value.NodeId.{NodeId}
 use Rattle.mb_base.specs.declared.value.ScopeId.{ScopeId}
 use Rattle.mb_base.specs.declared.value.Side.{Side}
+use Rattle.mb_eval_stmt.specs.declared.fors.ForParts.{ForParts}
+use Rattle.mb_eval_stmt.specs.machine.Plain.{IsFor}
+use Rattle.mb_parts.specs.Standing.{ContextIn}
+use Rattle.mb_frames.proofs.Forms.{forms-are, forms-grow}
+use Rattle.mb_frames.proofs.Going.{Step-after}
+use Rattle.mb_frames.proofs.Passed.{puts-none}
 use Rattle.mb_frames.proofs.Steps.{Step-by, Step-sure, Sure-by, drop-at}
+use Rattle.mb_frames.specs.Going.{Enters}
+use Rattle.mb_frames.specs.Kinds.{Expression, NodeSort, Statement, form_sort}
 use Rattle.mb_frames.specs.Resolved.{context_in, node_in, task_in}
 use Rattle.mb_frames.specs.Rest.Parts.{parts_at, parts_of}
 use Rattle.mb_frames.specs.Rest.Statements.{for_by, lets_of}
-use Rattle.mb_frames.specs.Kinds.{Expression, NodeSort, Statement, form_sort}
 use Rattle.mb_frames.specs.Standing.{forms_at}
-use Rattle.mb_frames.specs.Told.{IsNodeOf}
 use Rattle.mb_frames.specs.Stepping.{PutsNone, Step, Sure, Written}
+use Rattle.mb_frames.specs.Told.{IsNodeOf}
 use Rattle.mb_frames.specs.declared.frame.Frame.TheVariants as x
-use Rattle.mb_frames.specs.declared.frame.Move.{Move}
 use Rattle.mb_frames.specs.declared.frame.Move.TheVariants as move
+use Rattle.mb_frames.specs.declared.frame.Move.{Move}
 use Rattle.mb_frames.specs.declared.machine.Halt.{Halt}
 use Rattle.mb_frames.specs.declared.statements.StmtFrame.TheVariants as t
 use Rattle.mb_frames.specs.declared.task.Answer.TheVariants as a
@@ -22,12 +29,13 @@ use Rattle.mb_frames.specs.declared.task.Context.{Context}
 use Rattle.mb_frames.specs.declared.task.Outcome.TheVariants as o
 use Rattle.mb_frames.specs.declared.task.Task.TheVariants as task
 use Rattle.mb_model.specs.Meaning.{finished, row}
-use Rattle.mb_model.specs.Nodes.{node as node_form, node_if, node_row}
 use Rattle.mb_model.specs.Nodes.Evaluation.{Context as AContext, with_scope}
 use Rattle.mb_model.specs.Nodes.Scopes.{form_at}
 use Rattle.mb_model.specs.Nodes.Statements.{copy_if, for_again, for_begun, for_last, for_lets, for_next, for_turn, is_let, loop_form, loop_row, run_each}
+use Rattle.mb_model.specs.Nodes.{node as node_form, node_if, node_row}
 use Rattle.mb_model.specs.Task.{Answer, Nothing}
 use Rattle.mb_model.specs.Writing.{◌>>=◌, Does, Row, give}
+use Rattle.mb_parts.proofs.Places.{drop-past}
 use Rattle.mb_world.proofs.Grow.{ValueIn-grows}
 use Rattle.mb_world.proofs.Images.{value-grows}
 use Rattle.mb_world.specs.Data.{Data}
@@ -36,16 +44,11 @@ use Rattle.mb_world.specs.Graph.{Graph, Item}
 use Rattle.mb_world.specs.Ids.{HasItsIds, Maybe, ScopeIn, ValueIn}
 use Rattle.mb_world.specs.Image.{Image, Resolve, names_of}
 use Rattle.mb_world.specs.Value.{Val}
-use Rattle.mb_frames.proofs.Forms.{forms-are, forms-grow}
-use Rattle.mb_frames.proofs.Going.{Step-after}
-use Rattle.mb_frames.proofs.Passed.{puts-none}
-use Rattle.mb_eval_stmt.specs.declared.fors.ForParts.{ForParts}
-use Rattle.mb_frames.specs.Going.{Enters}
-use Rattle.mb_eval_stmt.specs.machine.Plain.{ContextIn, IsFor}
 
 -- ---- the row of a node
 
-pub row-is : (d : Data) (home : Side) (node : ℕ) (log : List Item) (this : Val) (scope : ℕ) (o : Option Form) → home.0 < d.sides
+pub row-is : (d : Data) (home : Side) (node : ℕ) (log : List Item) (this : Val) (scope : ℕ) (o : Option Form)
+    → home.0 < d.sides
     → slice_get (forms_at d home) node ≡ o
     → let c : AContext = record { side = home.0; scope = scope; this = this } in
     node_row c node finished (Image d log) ≡ node_if c node o finished (Image d log)
@@ -102,7 +105,8 @@ IsFor-grows d d' home node parts e q = record {
   lets = ap (λ (fs : List Form). lets_of fs q.first) e ∙ q.lets;
   test = node-still Expression d d' home e parts.test q.test;
   last = node-still Expression d d' home e parts.last q.last;
-  body = subst (λ (fs : List Form). IsSomeAnd (slice_get fs parts.body.0) (λ f. form_sort f ≡ Statement)) (sym e) q.body;
+  body = subst (λ (fs : List Form). IsSomeAnd (slice_get fs parts.body.0) (λ f. form_sort f ≡ Statement))
+      (sym e) q.body;
 }
 
 -- ---- where a scope was entered
@@ -136,15 +140,10 @@ entering home begun r d d1 d2 f f1 f2 l l2 at id p k q h c s =
     let m : ℕ → Graph → Row
     = λ sc. k (with_scope (context_in (names_of d) home.0 at) sc) finished in
     Step-after ℕ home begun r d d1 d2 f f1 f2 l l2 p id.0 m q c
-    (subst (λ (x : AContext). Step home begun r d1 d2 f1 f2 l l2 (k x finished)) (sym (inside-is d d1 home at id f f1 p q h)) s)
+    (subst (λ (x : AContext). Step home begun r d1 d2 f1 f2 l l2 (k x finished))
+    (sym (inside-is d d1 home at id f f1 p q h)) s)
 
 -- ---- lists
-
-pub drop-past : {A : Type 0} (xs : List A) (i : ℕ) → slice_get xs i ≡ None → drop i xs ≡ []
-drop-past [] zero e = refl
-drop-past [] (suc i) e = refl
-drop-past (x ∷ xs) zero e = cc
-drop-past (x ∷ xs) (suc i) e = drop-past xs i e
 
 pub each-next : (d : Data) (home : Side) (at : Context) (node part : NodeId) (next nx : ℕ) → ContextIn d at
     → slice_get (parts_at (forms_at d home) node.0) next ≡ Some part.0 → nx ≡ next + 1
@@ -226,14 +225,17 @@ pub Step-turn : (home : Side) (begun : Bool) (d d1 : Data) (f f1 : ℕ) (l : Wri
     (parts : ForParts) (id : ScopeId) (m : Move) → HasItsIds d → ContextIn d at → IsFor d home node parts
     → Enters (Ok id) d d1 f f1 (copy_if parts.lets at.scope.0) → ScopeIn d1 id
     → (ContextIn d1 (inside at id) → IsFor d1 home node parts
-    → Sure home d1 (for_turn (context_in (names_of d1) home.0 (inside at id)) node.0 parts.lets (node_in parts.test) (node_in parts.last) parts.body.0 finished) m)
+    → Sure home d1 (for_turn (context_in (names_of d1) home.0 (inside at id)) node.0 parts.lets (node_in parts.test)
+    (node_in parts.last) parts.body.0 finished) m)
     → Step home begun (Ok m) d d1 f f1 l l
-    (for_begun (context_in (names_of d) home.0 at) node.0 parts.lets (node_in parts.test) (node_in parts.last) parts.body.0 finished)
+    (for_begun (context_in (names_of d) home.0 at) node.0 parts.lets (node_in parts.test) (node_in parts.last)
+    parts.body.0 finished)
 Step-turn home begun d d1 f f1 l at node parts id m i h q e s g =
     let p : Does ℕ = copy_if parts.lets at.scope.0 in
     Sure-entered home begun d d1 f f1 l at id p
     (λ c. for_turn c node.0 parts.lets (node_in parts.test) (node_in parts.last) parts.body.0) m e h.1
-    (g (ContextIn-entered d d1 at id f f1 p e s h) (IsFor-grows d d1 home node parts (forms-entered d d1 home id f f1 p i e) q))
+    (g (ContextIn-entered d d1 at id f f1 p e s h)
+    (IsFor-grows d d1 home node parts (forms-entered d d1 home id f f1 p i e) q))
 
 -- ---- ends
 
@@ -252,7 +254,8 @@ Step-nothing home begun d f l p e =
 pub Step-last : (home : Side) (d d1 : Data) (f f1 : ℕ) (l : Written) (at : Context) (node last : NodeId) (id : ScopeId)
     (parts : ForParts) → IsFor d home node parts → HasItsIds d → ContextIn d at
     → Enters (Ok id) d d1 f f1 (copy_if parts.lets at.scope.0) → ScopeIn d1 id
-    → Step home true (Ok (move.Wait (x.Stmt (t.ForLast (inside at id) node)) (task.Evaluate last (inside at id)))) d d1 f f1 l l
+    → Step home true (Ok (move.Wait (x.Stmt (t.ForLast (inside at id) node)) (task.Evaluate last (inside at id)))) d
+    d1 f f1 l l
     (for_next (context_in (names_of d) home.0 at) node.0 parts.lets (Some last.0) finished)
 Step-last home d d1 f f1 l at node last id parts q i h e s =
     let p : Does ℕ = copy_if parts.lets at.scope.0 in
@@ -274,4 +277,5 @@ pub Step-around : (home : Side) (d d1 : Data) (f f1 : ℕ) (l : Written) (at : C
     ((p >>= (λ sc. for_last (with_scope (context_in (names_of d) home.0 at) sc) node.0 None)) finished)
 Step-around home d d1 f f1 l at node id p m h e s =
     entering home true (Ok m) d d1 d1 f f1 f1 l l at id p (λ k. for_last k node.0 None) e h.1
-    (puts-none home (Ok m) d1 d1 f1 f1 l l (for_again (context_in (names_of d1) home.0 (inside at id)) node.0 finished) s) s
+    (puts-none home (Ok m) d1 d1 f1 f1 l l (for_again (context_in (names_of d1) home.0 (inside at id)) node.0
+    finished) s) s

@@ -41,7 +41,8 @@ use Rattle.mb_eval_stmt.specs.declared.tries.TryParts.{TryParts}
 use Rattle.mb_frames.specs.Told.{IsNamed}
 use Rattle.mb_frames.specs.Told.{HasNames, shapes_of}
 use Rattle.mb_frames.specs.Going.{Changes, Enters, WentOn}
-use Rattle.mb_eval_stmt.specs.machine.Plain.{ContextIn, OutcomeIn}
+use Rattle.mb_eval_stmt.specs.machine.Plain.{OutcomeIn}
+use Rattle.mb_parts.specs.Standing.{ContextIn}
 use Rattle.mb_eval_stmt.specs.machine.Tries.{IsTry, caught_in}
 
 -- an outcome is passed on
@@ -63,8 +64,10 @@ Step-untried home begun d f l y p h e =
 pub Step-try : (home : Side) (begun : Bool) (r : Result Move Halt) (d d' : Data) (f f' : ℕ) (l l' : Written)
     (at : Context) (node : NodeId) (parts : TryParts) (y : AnOutcome) → IsTry d home node parts
     → Step home begun r d d' f f' l l'
-    (tried (context_in (names_of d) home.0 at) node.0 (caught_in d home parts) (node_in parts.handler) (node_in parts.ending) y finished)
-    → Step home begun r d d' f f' l l' (try_ended (forms_at d home) (context_in (names_of d) home.0 at) node.0 y finished)
+    (tried (context_in (names_of d) home.0 at) node.0 (caught_in d home parts) (node_in parts.handler)
+    (node_in parts.ending) y finished)
+    → Step home begun r d d' f f' l l' (try_ended (forms_at d home) (context_in (names_of d) home.0 at) node.0 y
+    finished)
 Step-try home begun r d d' f f' l l' at node parts y q s =
     let c : AContext = context_in (names_of d) home.0 at in
     Step-by home begun r d d' f f' l l' (try_ended (forms_at d home) c node.0 y finished)
@@ -80,7 +83,8 @@ handled at handler ending c = outcome (task_of c handler) >>= (λ y. finally (wi
 pub Step-handler : (home : Side) (begun : Bool) (d d1 : Data) (f f1 : ℕ) (l : Written) (at : Context) (node : NodeId)
     (name : Option (List ℕ)) (handler : NodeId) (ending : Option NodeId) (v : Val) (id : ScopeId) → ContextIn d at
     → Enters (Ok id) d d1 f f1 (catch_scope (context_in (names_of d) home.0 at) node.0 name v) → ScopeIn d1 id
-    → Step home begun (Ok (move.Wait (x.Stmt (t.Handler at ending)) (task.Evaluate handler (inside at id)))) d d1 f f1 l l
+    → Step home begun (Ok (move.Wait (x.Stmt (t.Handler at ending)) (task.Evaluate handler (inside at id)))) d d1 f
+    f1 l l
     (catch (context_in (names_of d) home.0 at) node.0 name (Some handler.0) (node_in ending) v finished)
 Step-handler home begun d d1 f f1 l at node name handler ending v id h q s =
     let u : ValueIn d1 at.this = ValueIn-grows d d1 q.grew.grows at.this h.1 in

@@ -1,14 +1,13 @@
 -- Which frames are those of statements.
-use Rattle.std.specs.Prelude.{Bool, List, Option, Some, [], false, slice_get, true, ◌∷◌, ◌≡◌}
+use Rattle.std.specs.Prelude.{Bool, Option, Some, false, slice_get, true, ◌≡◌}
+use Rattle.mb_base.specs.declared.value.Side.{Side}
 use Rattle.mb_frames.specs.Standing.{forms_at}
-use Rattle.mb_frames.specs.declared.frame.Frame.{Frame}
 use Rattle.mb_frames.specs.declared.frame.Frame.TheVariants as x
-use Rattle.mb_frames.specs.declared.machine.Waiting.{Waiting}
-use Rattle.mb_frames.specs.declared.task.Task.{Task}
+use Rattle.mb_frames.specs.declared.frame.Frame.{Frame}
 use Rattle.mb_frames.specs.declared.task.Task.TheVariants as t
+use Rattle.mb_frames.specs.declared.task.Task.{Task}
 use Rattle.mb_world.specs.Data.{Data}
 use Rattle.mb_world.specs.Form.{BlockForm, BreakForm, ConstForm, ContinueForm, DeclForm, DoWhileForm, EmptyForm, ExprStmtForm, ForForm, Form, FunctionDeclForm, IfForm, LetForm, ParamForm, ReturnForm, ScriptForm, ThrowForm, TryForm, WhileForm}
-use Rattle.mb_base.specs.declared.value.Side.{Side}
 
 -- a statement or declaration, or a part of one that is no expression
 abbrev pub is_statement : Option Form → Bool
@@ -43,8 +42,3 @@ IsStatementFrame d home (x.Begin task) = IsStatementTask d home task
 IsStatementFrame d home (x.Anew task) = IsStatementTask d home task
 IsStatementFrame d home (x.Stmt frame) = Unit {0}
 IsStatementFrame d home frame = ⊥
-
-abbrev pub IsOnTop : (Waiting → Type 0) → List Waiting → Type 0
-IsOnTop P [] = ⊥
-IsOnTop P (y ∷ []) = P y
-IsOnTop P (y ∷ z ∷ above) = IsOnTop P (z ∷ above)

@@ -9,7 +9,7 @@ ghost use Rattle.mb_model.specs.Nodes.Statements.{run_each, run_scoped};
 ghost use Rattle.mb_world.specs.Image.{names_of};
 ghost use Rattle.mb_frames.specs.Running.{CanRun};
 ghost use Rattle.mb_frames.specs.Making.{HasPrototypes};
-ghost use Rattle.mb_eval_stmt.specs.machine.Plain.{ContextIn};
+ghost use Rattle.mb_parts.specs.Standing.{ContextIn};
 ghost use Rattle.mb_frames.specs.Held.{HeldNode};
 ghost use Rattle.mb_frames.specs.Holding.{stmt_held};
 ghost use Rattle.mb_frames.specs.Kinds.{is_list_form};

@@ -16,7 +16,7 @@ ghost use Rattle.mb_world.specs.Image.{Resolve, names_of, text_in};
 ghost use Rattle.mb_world.specs.Value.{Val};
 ghost use Rattle.mb_frames.specs.Running.{CanRun};
 ghost use Rattle.mb_eval_stmt.specs.machine.Declaring.{Declares};
-ghost use Rattle.mb_eval_stmt.specs.machine.Plain.{ContextIn};
+ghost use Rattle.mb_parts.specs.Standing.{ContextIn};
 ghost use Rattle.mb_frames.specs.Held.{HeldNode, HeldValue};
 ghost use Rattle.mb_frames.specs.Holding.{stmt_held};
 ghost use Rattle.mb_frames.specs.Kinds.{Expression, is_declaring_form};
@@ -27,11 +27,11 @@ ghost use Rattle.mb_frames.specs.declared.statements.StmtFrame.TheVariants as st
 ghost use Rattle.mb_frames.specs.Keeping.{KeepsOn, scope_held};
 ghost use Rattle.mb_eval_stmt.specs.machine.Keeping.{context_held, declared_held};
 
-use crate::scopes::initialize;
 use mb_base::{NodeId, ScopeId, Side, StrId, Value};
 use mb_frames::{
     Answer, Context, Frame, Halt, Move, Outcome, StmtFrame, Task, after, count_of, form_at, part_at,
 };
+use mb_parts::initialize;
 use mb_tree::Form;
 use mb_world::World;
 

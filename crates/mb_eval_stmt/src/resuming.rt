@@ -21,9 +21,10 @@ use crate::declarations::declared;
 use crate::fors::{for_again, for_body_ended, for_first_done, for_tested};
 use crate::loops::{branch, do_ended, do_tested, while_ended, while_tested};
 use crate::tries::{finally, finally_ended, try_ended};
-use crate::values::{truth, value_of};
+use crate::values::value_of;
 use mb_base::{Fuel, Side, Value};
 use mb_frames::{Answer, Halt, Move, Outcome, StmtFrame};
+use mb_parts::truth;
 use mb_world::World;
 
 // A statement takes how its part ended, whatever the outcome is.

@@ -1,22 +1,20 @@
-// Scopes are entered and copied, and names are given (ECMA-262, 9.1).
-ghost use Rattle.std.specs.Prelude.{◌≡◌, ◌<◌, ◌+◌, ℕ, map, length, OnOk, IfOk, ◌∷◌, []};
-ghost use Rattle.mb_tree.specs.Names.{names_at};
-ghost use Rattle.mb_model.specs.Nodes.Scopes.{enter_scope, copy_scope, initialize};
-ghost use Rattle.mb_world.specs.Data.{names_at as bound_at, program_of};
-ghost use Rattle.mb_world.specs.Ids.{HasItsIds, ScopeIn, TextIn, ValueIn};
-ghost use Rattle.mb_world.specs.Image.{Resolve, names_of, text_in};
-ghost use Rattle.mb_frames.specs.Running.{CanRun};
-ghost use Rattle.mb_frames.specs.Going.{Enters, Changes, Charged};
-ghost use Rattle.mb_eval_stmt.specs.machine.Scopes.{unbound, bound_by};
+// Scopes are entered and copied (ECMA-262, 9.1).
+ghost use Rattle.std.specs.Prelude.{◌≡◌, IfOk, length, map};
 ghost use Rattle.mb_base.specs.declared.value.Side.{Side as ASide};
-ghost use Rattle.mb_frames.specs.Held.{HeldScope, HeldText, HeldValue};
+ghost use Rattle.mb_frames.specs.Going.{Charged, Enters};
+ghost use Rattle.mb_frames.specs.Keeping.{KeepsOn, scope_held};
 ghost use Rattle.mb_frames.specs.Kinds.{Statement};
+ghost use Rattle.mb_frames.specs.Running.{CanRun};
 ghost use Rattle.mb_frames.specs.Told.{IsNodeOf};
-ghost use Rattle.mb_frames.specs.Keeping.{KeepsOn, none_held, scope_held};
+ghost use Rattle.mb_model.specs.Nodes.Scopes.{copy_scope, enter_scope};
+ghost use Rattle.mb_parts.specs.Scopes.{bound_by, unbound};
+ghost use Rattle.mb_world.specs.Data.{program_of};
+ghost use Rattle.mb_world.specs.Ids.{HasItsIds, ScopeIn};
 
-use mb_base::{Fuel, NodeId, ScopeId, Side, StrId, Value};
+use mb_base::{Fuel, NodeId, ScopeId, Side};
 use mb_frames::Halt;
-use mb_world::{Bound, Names, Scope, World};
+use mb_parts::unbound_names;
+use mb_world::{Names, Scope, World};
 use std::alloc::Global;
 
 // The scope of a node is entered: a unit for each of its names, none of which is given.
@@ -60,27 +58,6 @@ fn bound_names(w: &World, fuel: &mut Fuel, home: Side, node: NodeId) -> Result<N
     }
 }
 
-// These names, none of which is given.
-fn unbound_names(
-    alloc: Global,
-    fuel: &mut Fuel,
-    binds: &[(NodeId, StrId, bool)],
-) -> Result<Names, Halt>
-    ensures names { IfOk result (λ names. names ≡ map unbound binds.now) }
-    ensures charged { Charged result fuel.old fuel.new (length binds.now) }
-{
-    let mut names = Names::new(alloc);
-    for bind in binds {
-        fuel.charge(1)?;
-        names.push(Bound {
-            name: bind.1,
-            value: None,
-            fixed: bind.2,
-        })?;
-    }
-    Ok(names)
-}
-
 // A copy of a scope: a unit for each of its names.
 pub(crate) fn copy_scope(w: &mut World, fuel: &mut Fuel, scope: ScopeId) -> Result<ScopeId, Halt>
     requires { ScopeIn w.old scope }
@@ -118,31 +95,4 @@ fn copied_names(alloc: Global, fuel: &mut Fuel, old: &Names) -> Result<Names, Ha
         }
     }
     Ok(names)
-}
-
-// A name that a scope itself binds is given its value.
-pub(crate) fn initialize(w: &mut World, scope: ScopeId, name: StrId, x: Value) -> Result<(), Halt>
-    requires scope { ScopeIn w.old scope }
-    requires name { TextIn w.old name }
-    requires value { ValueIn w.old x }
-    ensures changes { Changes result w.old w.new
-        (initialize scope.0 (text_in (names_of w.old) name) (Resolve (names_of w.old) x)) }
-    ensures keeps { (home : ASide) →
-        KeepsOn home (HeldScope scope ∷ HeldText name ∷ HeldValue x ∷ []) none_held result w.old w.new }
-    ensures ids { HasItsIds w.new }
-    ensures cells { w.new.cells ≡ w.old.cells }
-    ensures joined { w.new.joined ≡ w.old.joined }
-{
-    let _before = w.texts();
-    match w.scope(scope).names.place_of(name) {
-        Some(place) => {
-            if place > u32::MAX as usize {
-                return Err(Halt::NoMemory);
-            }
-            w.give(scope, place as u32, x);
-            let _after = w.texts();
-            Ok(())
-        }
-        None => Ok(()),
-    }
 }

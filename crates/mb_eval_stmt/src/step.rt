@@ -9,13 +9,14 @@ ghost use Rattle.mb_frames.specs.declared.task.Task.TheVariants as t;
 ghost use Rattle.mb_model.specs.Engine.{charged_row};
 ghost use Rattle.mb_model.specs.Meaning.{row};
 ghost use Rattle.mb_world.specs.Image.{names_of};
-ghost use Rattle.mb_eval_stmt.specs.Ours.{IsOnTop, IsStatementFrame, IsStatementTask, is_statement};
+ghost use Rattle.mb_parts.specs.Top.{IsOnTop};
+ghost use Rattle.mb_eval_stmt.specs.Ours.{IsStatementFrame, IsStatementTask, is_statement};
 ghost use Rattle.mb_frames.specs.Running.{CanRun};
 ghost use Rattle.mb_frames.specs.Making.{HasPrototypes};
-ghost use Rattle.mb_eval_stmt.specs.machine.Plain.{ContextIn};
+ghost use Rattle.mb_parts.specs.Standing.{ContextIn};
 ghost use Rattle.mb_frames.specs.Ready.{IsReadyMachine, Keeps, ReadyAfter};
 ghost use Rattle.mb_frames.specs.Sorts.{ACompletion};
-ghost use Rattle.mb_frames.specs.Wholeness.{StepsKept};
+ghost use Rattle.mb_frames.specs.Wholeness.{StaysFound, StepsKept};
 ghost use Rattle.mb_eval_stmt.specs.machine.Keeping.{context_held};
 
 use crate::blocks::run_scoped;
@@ -43,6 +44,7 @@ pub fn step_stmt(
     ensures steps { Steps result m.old m.new w.old w.new fuel.old fuel.new (written lines.old) (written lines.new) }
     ensures ready { ReadyAfter result w.new m.new }
     ensures kept { StepsKept result m.old m.new w.old w.new }
+    ensures found { StaysFound w.old w.new }
 {
     match m.pop() {
         Some(top) => {

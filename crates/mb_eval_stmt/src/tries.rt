@@ -19,7 +19,8 @@ ghost use Rattle.mb_frames.specs.Running.{CanRun};
 ghost use Rattle.mb_frames.specs.Told.{IsNamed};
 ghost use Rattle.mb_frames.specs.Told.{shapes_of};
 ghost use Rattle.mb_frames.specs.Going.{Enters};
-ghost use Rattle.mb_eval_stmt.specs.machine.Plain.{ContextIn, OutcomeIn};
+ghost use Rattle.mb_eval_stmt.specs.machine.Plain.{OutcomeIn};
+ghost use Rattle.mb_parts.specs.Standing.{ContextIn};
 ghost use Rattle.mb_eval_stmt.specs.machine.Tries.{IsTry, caught_in};
 ghost use Rattle.mb_frames.specs.Held.{HeldScope, HeldValue};
 ghost use Rattle.mb_frames.specs.Holding.{outcome_held, stmt_held};
@@ -29,9 +30,10 @@ ghost use Rattle.mb_frames.specs.declared.statements.StmtFrame.TheVariants as st
 ghost use Rattle.mb_frames.specs.Keeping.{KeepsOn, scope_held};
 ghost use Rattle.mb_eval_stmt.specs.machine.Keeping.{context_held};
 
-use crate::scopes::{enter_scope, initialize};
+use crate::scopes::enter_scope;
 use mb_base::{Fuel, NodeId, ScopeId, Side, StrId, Value};
 use mb_frames::{Context, Frame, Halt, Move, Outcome, StmtFrame, Task, form_at, name_of};
+use mb_parts::initialize;
 use mb_tree::Form;
 use mb_world::World;
 

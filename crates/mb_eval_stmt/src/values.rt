@@ -1,4 +1,4 @@
-// What a statement asks of a value.
+// The values of answers.
 ghost use Rattle.std.specs.Prelude.{◌≡◌};
 ghost use Rattle.mb_base.specs.declared.value.Side.{Side};
 ghost use Rattle.mb_frames.specs.Held.{AreIn, HeldValue};
@@ -8,26 +8,10 @@ ghost use Rattle.mb_frames.specs.Resolved.{answer_in};
 ghost use Rattle.mb_model.specs.Writing.{value_in};
 ghost use Rattle.mb_world.specs.Data.{Data};
 ghost use Rattle.mb_world.specs.Ids.{ValueIn};
-ghost use Rattle.mb_world.specs.Image.{Names, Resolve, names_of};
-ghost use Rattle.mb_world.specs.Value.{to_boolean};
+ghost use Rattle.mb_world.specs.Image.{Names, Resolve};
 
 use mb_base::Value;
 use mb_frames::Answer;
-use mb_world::World;
-
-// ToBoolean (ECMA-262, 7.1.2).
-pub(crate) fn truth(w: &World, x: Value) -> bool
-    requires { ValueIn w.now x }
-    ensures { result ≡ to_boolean (Resolve (names_of w.now) x) }
-{
-    match x {
-        Value::Undefined | Value::Null => false,
-        Value::Bool(b) => b,
-        Value::Whole(n) => n != 0,
-        Value::Text(text) => !w.texts().units(text).is_empty(),
-        Value::Symbol(_) | Value::Object(_) => true,
-    }
-}
 
 // The value of an answer that is one.
 pub(crate) fn value_of(answer: &Answer) -> Value

@@ -112,20 +112,20 @@ module _ (d : Data) (n n' : Names) (g : Agrees d n n') where
   pub real-agrees : (f : Option (Full Value)) → Maybe (FullIn d) f → real_in n' f ≡ real_in n f
   real-agrees f h = option-same (full_in n') (full_in n) (FullIn d) full-agrees f h
 
-  pub method-agrees : (y : Method) → AreIn d (method_held y) → method_in n' y ≡ method_in n y
-  method-agrees method.GetPrototypeOf h = refl
-  method-agrees (method.SetPrototypeOf given) h = rw (g.value given h.0) refl
-  method-agrees method.IsExtensible h = refl
-  method-agrees method.PreventExtensions h = refl
-  method-agrees (method.GetOwnProperty k) h = rw (g.key k h.0) refl
-  method-agrees (method.DefineOwnProperty k x) h = rw (g.key k h.0, desc-agrees x h.1.0) refl
-  method-agrees (method.HasProperty k) h = rw (g.key k h.0) refl
-  method-agrees (method.Get k r) h = rw (g.key k h.0, g.value r h.1.0) refl
-  method-agrees (method.Set k x r) h = rw (g.key k h.0, g.value x h.1.0, g.value r h.1.1.0) refl
-  method-agrees (method.Delete k) h = rw (g.key k h.0) refl
-  method-agrees method.OwnPropertyKeys h = refl
-  method-agrees (method.Call this vs) h = rw (g.value this h.0, values-agree vs h.1.0) refl
-  method-agrees (method.Construct vs target) h = rw (values-agree vs h.0, g.value target h.1.0) refl
+  pub method-agrees : (id : ObjId) (y : Method) → AreIn d (method_held id y) → method_in n' y ≡ method_in n y
+  method-agrees id method.GetPrototypeOf h = refl
+  method-agrees id (method.SetPrototypeOf given) h = rw (g.value given h.0) refl
+  method-agrees id method.IsExtensible h = refl
+  method-agrees id method.PreventExtensions h = refl
+  method-agrees id (method.GetOwnProperty k) h = rw (g.key k h.0) refl
+  method-agrees id (method.DefineOwnProperty k x) h = rw (g.key k h.0, desc-agrees x h.1.0) refl
+  method-agrees id (method.HasProperty k) h = rw (g.key k h.0) refl
+  method-agrees id (method.Get k r) h = rw (g.key k h.0, g.value r h.1.0) refl
+  method-agrees id (method.Set k x r) h = rw (g.key k h.0, g.value x h.1.0, g.value r h.1.1.0) refl
+  method-agrees id (method.Delete k) h = rw (g.key k h.0) refl
+  method-agrees id method.OwnPropertyKeys h = refl
+  method-agrees id (method.Call this vs) h = rw (g.value this h.0, values-agree vs h.1.0) refl
+  method-agrees id (method.Construct vs target) h = rw (values-agree vs h.0, g.value target h.1.0) refl
 
   pub request-agrees : (y : Request) → AreIn d (request_held y) → request_in n' y ≡ request_in n y
   request-agrees (q.GetAt k) h = ap model.GetAt (g.value k h.0)
@@ -144,7 +144,7 @@ module _ (d : Data) (n n' : Names) (g : Agrees d n n') where
   task-agrees s (task.Walk object given next) h =
       rw (g.object object h.0, g.value given h.1.0, g.value next h.1.1.0) refl
   task-agrees s (task.Perform method object viewer enters) h =
-      rw (g.object object h.0, method-agrees method h.1) refl
+      rw (g.object object h.0, method-agrees object method h.1) refl
   task-agrees s (task.Enter function this arguments) h =
       rw (g.object function h.0, g.value this h.1.0, values-agree arguments h.1.1.0) refl
   task-agrees s (task.Run place this arguments target) h =
@@ -361,8 +361,8 @@ module _ (d : Data) (n n' : Names) (g : Agrees d n n') where
 
   pub proxy-agrees : (s : ℕ) (y : ProxyFrame) → AreIn d (proxy_held y) → (w : model.Answer)
       → proxy_rest n' s y w ≡ proxy_rest n s y w
-  proxy-agrees s (p.TrapGot side target handler method) h w = rw (g.object target h.0, g.object handler h.1.0, method-agrees method h.1.1) refl
-  proxy-agrees s (p.Said target method) h w = rw (g.object target h.0, method-agrees method h.1) refl
+  proxy-agrees s (p.TrapGot side target handler method) h w = rw (g.object target h.0, g.object handler h.1.0, method-agrees target method h.1.1) refl
+  proxy-agrees s (p.Said target method) h w = rw (g.object target h.0, method-agrees target method h.1) refl
   proxy-agrees s (p.PrototypeExtensible target said) h w = rw (g.object target h.0, g.value said h.1.0) refl
   proxy-agrees s (p.PrototypeRead said) h w = rw (g.value said h.0) refl
   proxy-agrees s (p.SetPrototypeExtensible target given) h w = rw (g.object target h.0, g.value given h.1.0) refl
@@ -392,4 +392,4 @@ module _ (d : Data) (n n' : Names) (g : Agrees d n n') where
   pub membrane-agrees : (s : ℕ) (y : MembraneFrame) → AreIn d (membrane_held y) → (w : model.Outcome)
       → membrane_rest n' s y w ≡ membrane_rest n s y w
   membrane-agrees s m.Crossing h w = refl
-  membrane-agrees s (m.TrapGot owner target handler method) h w = rw (g.object target h.0, g.object handler h.1.0, method-agrees method h.1.1) refl
+  membrane-agrees s (m.TrapGot owner target handler method) h w = rw (g.object target h.0, g.object handler h.1.0, method-agrees target method h.1.1) refl

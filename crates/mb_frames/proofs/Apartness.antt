@@ -55,7 +55,7 @@ one-number (Before behind ∷ ss) n (suc i) zero h k e = cc
 one-number (Hidden ∷ ss) n (suc i) zero h k e = cc
 one-number (s ∷ ss) n (suc i) (suc j) h k e = ap suc (one-number ss (next_if (is_counted s) n) i j h k e)
 
-same-id : (i k : ObjId) → i.0 ≡ k.0 → i ≡ k
+pub same-id : (i k : ObjId) → i.0 ≡ k.0 → i ≡ k
 same-id i k e = ap (λ (n : ℕ). let o : ObjId = record { 0 = n } in o) e
 
 some-there : {A : Type 0} (o : Option A) (P : A → Type 0) → IsSomeAnd o P → (a : A) × (o ≡ Some a) × P a
@@ -68,7 +68,7 @@ stand-at : (d : Data) (id : ObjId) (c : Cell) → cell_at d id ≡ Some c
     → slice_get (stands d.cells) id.0 ≡ Some (stand c)
 stand-at d id c e = slice_get-map stand d.cells id.0 ∙ ap (option_map stand) e
 
-stands-for : (d : Data) (id : ObjId) (c : Cell) (s : Stand) → cell_at d id ≡ Some c → stand c ≡ s
+pub stands-for : (d : Data) (id : ObjId) (c : Cell) (s : Stand) → cell_at d id ≡ Some c → stand c ≡ s
     → object_in (names_of d) id ≡ stood (names_of d) id.0 (Some s)
 stands-for d id c s e h = ap (stood (names_of d) id.0) (stand-at d id c e ∙ ap Some h)
 
@@ -103,16 +103,16 @@ is-place one other n place h k e = (let r : Object n ≡ BuiltIn place = sym h �
 -- ---- two of a home
 
 -- a cell that a home may hold a reference to: its own and no shadow where the world isn't joined
-record MayName (d : Data) (home : Side) (id : ObjId) (c : Cell) : Type 0 where
-  there : cell_at d id ≡ Some c
-  own : d.joined ≡ false → (c.home ≡ home) × (is_shadow c.kind ≡ false)
+pub record MayName (d : Data) (home : Side) (id : ObjId) (c : Cell) : Type 0 where
+  pub there : cell_at d id ≡ Some c
+  pub own : d.joined ≡ false → (c.home ≡ home) × (is_shadow c.kind ≡ false)
 
 module _ (d : Data) (r : IsReady d) where
   no-membrane : d.joined ≡ true → (id : ObjId) (c : Cell) → cell_at d id ≡ Some c → is_of_membrane c.kind ≡ false
   no-membrane u id c e =
       All-at (λ (y : Cell). is_of_membrane y.kind ≡ false) d.cells id.0 c e (r.formed.joined u).membrane
 
-  not-hidden : (home : Side) (id : ObjId) (c : Cell) → MayName d home id c → stand c ≡ Hidden → ⊥
+  pub not-hidden : (home : Side) (id : ObjId) (c : Cell) → MayName d home id c → stand c ≡ Hidden → ⊥
   not-hidden home id c m h = by d.joined refl
     where
       shadow : is_shadow c.kind ≡ true
@@ -141,7 +141,7 @@ module _ (d : Data) (r : IsReady d) where
       by false u = (u, k.0, k.1, record { cell = c; there = m.there; home_is = refl; kind_is = k.2 }, k.3)
 
   -- two objects of which neither is a proxy
-  counted-same : (i k : ObjId) (c e : Cell) → cell_at d i ≡ Some c → cell_at d k ≡ Some e → stand c ≡ Counted
+  pub counted-same : (i k : ObjId) (c e : Cell) → cell_at d i ≡ Some c → cell_at d k ≡ Some e → stand c ≡ Counted
       → stand e ≡ Counted → number_at (names_of d) i.0 ≡ number_at (names_of d) k.0 → i ≡ k
   counted-same i k c e p q h j n =
       same-id i k (one-number (stands d.cells) 0 i.0 k.0 (stand-at d i c p ∙ ap Some h) (stand-at d k e q ∙ ap Some j) n)
@@ -237,7 +237,7 @@ module _ (d : Data) (r : IsReady d) where
 
   -- ---- each stands for an object
 
-  real-kind : (home : Side) (id : ObjId) (c : Cell) → MayName d home id c → IsRealKind d c.kind
+  pub real-kind : (home : Side) (id : ObjId) (c : Cell) → MayName d home id c → IsRealKind d c.kind
   real-kind home id c m = by c.kind refl (behind-counted d r id c m.there)
     where
       by : (y : CellKind) → c.kind ≡ y → BehindCounted d y → IsRealKind d y
@@ -249,7 +249,7 @@ module _ (d : Data) (r : IsReady d) where
 
 -- ---- what a home may hold
 
-may-name : (d : Data) (home : Side) (id : ObjId) (c : Cell) → MayHold d home (HeldObject id) → cell_at d id ≡ Some c
+pub may-name : (d : Data) (home : Side) (id : ObjId) (c : Cell) → MayHold d home (HeldObject id) → cell_at d id ≡ Some c
     → MayName d home id c
 may-name d home id c h e =
     record { there = e; own = λ u. rw e at (All-head (IsOwn d home) id [] (h.own u)) }

@@ -1,4 +1,6 @@
 -- A machine stays formed where its step says of its own part what it is to say.
+use Rattle.mb_frames.specs.declared.frame.Frame.TheVariants as x
+use Rattle.mb_frames.specs.Stepping.{HasItsOutcome, IsWait}
 use Rattle.mb_base.specs.declared.value.Side.{Side}
 use Rattle.mb_frames.proofs.Founding.{stack-sound}
 use Rattle.mb_frames.proofs.Growing.{below-in, machine-in, outcome-stays}
@@ -11,7 +13,7 @@ use Rattle.mb_frames.specs.Holding.{frame_held, outcome_held, task_held}
 use Rattle.mb_frames.specs.Sorts.{AValue, AreLinked, IsOfSort, Sort, fits, frame_sort, stack_sort, task_gives, waits_for}
 use Rattle.mb_frames.specs.Standing.{Here, Logged, forms_at, left_by}
 use Rattle.mb_frames.specs.Stepping.{Stepped, Written}
-use Rattle.mb_frames.specs.Wholeness.{AreSound, FormedMachine, GoesOnFormed, IsStackSound, StaysFound, sort_by}
+use Rattle.mb_frames.specs.Wholeness.{AreSound, FormedMachine, GoesOnFormed, IsStackSound, StaysFound, sort_by, AreFit, IsFitBegun, IsFitFrame, IsFitTask}
 use Rattle.mb_frames.specs.declared.frame.Frame.{Frame}
 use Rattle.mb_frames.specs.declared.frame.Move.TheVariants as move
 use Rattle.mb_frames.specs.declared.machine.Machine.{Machine}
@@ -27,7 +29,7 @@ use Rattle.mb_world.specs.Intrinsics.{intrinsic}
 use Rattle.mb_world.specs.declared.cell.ErrorKind.{ErrorKind}
 use Rattle.mb_world.specs.declared.cell.ErrorKind.TheVariants.{Error as ErrorKindError, TypeError as ErrorKindType, RangeError as ErrorKindRange, ReferenceError as ErrorKindReference}
 use Rattle.std.specs.List.{AllByRecursion}
-use Rattle.std.proofs.Common.{List, None, [], arith, is_some, refl, subst, sym, true, ℕ, ◌++◌, ◌<◌, ◌∷◌, ◌≡◌, ◌≢◌}
+use Rattle.std.proofs.Common.{List, None, Option, [], arith, is_some, refl, subst, sym, true, ℕ, ◌++◌, ◌<◌, ◌∷◌, ◌≡◌, ◌≢◌}
 
 -- ---- what was found
 
@@ -36,6 +38,7 @@ Found-same d = record {
   grew = Grew-same d;
   callable = λ y i h. h;
   constructor = λ y i h. h;
+  functions = λ id h. h;
   collection = λ id i h. h;
   arrays = λ id home h. h;
   plain = λ id home h. h;
@@ -49,6 +52,7 @@ Found-then a b c s t = record {
   grew = Grew-then a b c s.grew t.grew;
   callable = λ y i h. t.callable y (ValueIn-grows a b s.grew.grows y i) (s.callable y i h);
   constructor = λ y i h. t.constructor y (ValueIn-grows a b s.grew.grows y i) (s.constructor y i h);
+  functions = λ id h. t.functions id (s.functions id h);
   collection = λ id i h. t.collection id (omega (arith, i, s.grew.grows.cells_in)) (s.collection id i h);
   arrays = λ id home h. t.arrays id home (s.arrays id home h);
   plain = λ id home h. t.plain id home (s.plain id home h);
@@ -95,6 +99,27 @@ frames-after m m' d d' f f' l l' q h i s k =
     all-both (λ (y : Waiting). AreSound d' y.home (frame_held y.frame)) q.below (left_by q.passage)
     (stack-sound d d' i s q.below (below-in m m' d d' f f' l l' q h.ids) a) k.frames
 
+-- what waits is fit
+wait-fit : (d : Data) (y : Frame) → IsWait y → IsFitFrame d y
+wait-fit d (x.Begin t) h = absurd h
+wait-fit d (x.Begun t) h = absurd h
+wait-fit d (x.Anew t) h = absurd h
+wait-fit d (x.Expr y) h = tt
+wait-fit d (x.Stmt y) h = tt
+wait-fit d (x.Call y) h = tt
+wait-fit d (x.Reflect y) h = tt
+wait-fit d (x.Array y) h = tt
+wait-fit d (x.Proxy y) h = tt
+wait-fit d (x.Collect y) h = tt
+wait-fit d (x.Membrane y) h = tt
+wait-fit d (x.Entry y) h = tt
+
+below-fit : (d : Data) (below : List Waiting) (top : Waiting) (ended : Option Outcome)
+    → HasItsOutcome (below ++ (top ∷ [])) ended → AreFit d below
+below-fit d [] top ended h = tt
+below-fit d (y ∷ []) top ended h = (wait-fit d y.frame h.0, tt)
+below-fit d (y ∷ z ∷ ys) top ended h = (wait-fit d y.frame h.0, below-fit d (z ∷ ys) top ended h.1)
+
 pub formed-after : (m m' : Machine) (d d' : Data) (f f' : ℕ) (l l' : Written) (q : Stepped m m' d d' f f' l l')
     (log : List Item) → Logged d log → (h : FormedMachine d m) → HasItsIds d
     → StaysFound d d'
@@ -104,6 +129,8 @@ formed-after m m' d d' f f' l l' q log e h i s k = record {
   homes = rw q.is (homes-after m m' d d' f f' l l' q h i s k);
   now = rw q.now k.now;
   frames = rw q.is (frames-after m m' d d' f f' l l' q h i s k);
+  fit = rw q.is (all-both (λ (y : Waiting). IsFitFrame d' y.frame) q.below (left_by q.passage)
+      (below-fit d' q.below q.top m.done (rw (← q.was) h.outcome)) k.fit);
   done = rw (q.now, q.done) k.done;
   outcome = outcome-stays m m' d d' f f' l l' q log e h.outcome;
   sort = k.given;
@@ -132,6 +159,7 @@ module _ (d : Data) (home : Side) (wanted : Sort) (inside : home.0 < d.sides) wh
     homes = tt;
     now = inside;
     frames = tt;
+    fit = tt;
     done = h;
     given = given;
     of_sort = k;
@@ -139,12 +167,14 @@ module _ (d : Data) (home : Side) (wanted : Sort) (inside : home.0 < d.sides) wh
     fitting = e;
   }
 
-  pub next-formed : (t : Task) → AreSound d home (task_held t) → fits (task_gives (forms_at d home) t) wanted ≡ true
+  pub next-formed : (t : Task) → AreSound d home (task_held t) → IsFitTask d t
+      → fits (task_gives (forms_at d home) t) wanted ≡ true
       → GoesOnFormed d wanted (Here home (move.Next t))
-  next-formed t h e = record {
+  next-formed t h n e = record {
     homes = (inside, tt);
     now = inside;
     frames = (h, tt);
+    fit = (n, tt);
     done = tt;
     given = AValue;
     of_sort = tt;
@@ -152,12 +182,14 @@ module _ (d : Data) (home : Side) (wanted : Sort) (inside : home.0 < d.sides) wh
     fitting = e;
   }
 
-  pub anew-formed : (t : Task) → AreSound d home (task_held t) → fits (task_gives (forms_at d home) t) wanted ≡ true
+  pub anew-formed : (t : Task) → AreSound d home (task_held t) → IsFitBegun d t
+      → fits (task_gives (forms_at d home) t) wanted ≡ true
       → GoesOnFormed d wanted (Here home (move.Anew t))
-  anew-formed t h e = record {
+  anew-formed t h n e = record {
     homes = (inside, tt);
     now = inside;
     frames = (h, tt);
+    fit = (n, tt);
     done = tt;
     given = AValue;
     of_sort = tt;
@@ -166,13 +198,14 @@ module _ (d : Data) (home : Side) (wanted : Sort) (inside : home.0 < d.sides) wh
   }
 
   pub wait-formed : (y : Frame) (t : Task) → AreSound d home (frame_held y) → AreSound d home (task_held t)
-      → waits_for y (task_gives (forms_at d home) t) ≡ true
+      → IsFitFrame d y → IsFitTask d t → waits_for y (task_gives (forms_at d home) t) ≡ true
       → fits (frame_sort (forms_at d home) y (task_gives (forms_at d home) t)) wanted ≡ true
       → GoesOnFormed d wanted (Here home (move.Wait y t))
-  wait-formed y t h k e i = record {
+  wait-formed y t h k w n e i = record {
     homes = (inside, (inside, tt));
     now = inside;
     frames = (h, (k, tt));
+    fit = (w, (n, tt));
     done = tt;
     given = AValue;
     of_sort = tt;
@@ -181,13 +214,14 @@ module _ (d : Data) (home : Side) (wanted : Sort) (inside : home.0 < d.sides) wh
   }
 
   pub entered-formed : (y : Frame) (t : Task) → AreSound d home (frame_held y) → AreSound d home (task_held t)
-      → waits_for y (task_gives (forms_at d home) t) ≡ true
+      → IsFitFrame d y → IsFitBegun d t → waits_for y (task_gives (forms_at d home) t) ≡ true
       → fits (frame_sort (forms_at d home) y (task_gives (forms_at d home) t)) wanted ≡ true
       → GoesOnFormed d wanted (Here home (move.Entered y t))
-  entered-formed y t h k e i = record {
+  entered-formed y t h k w n e i = record {
     homes = (inside, (inside, tt));
     now = inside;
     frames = (h, (k, tt));
+    fit = (w, (n, tt));
     done = tt;
     given = AValue;
     of_sort = tt;

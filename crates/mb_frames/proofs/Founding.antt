@@ -5,7 +5,7 @@ use Rattle.mb_base.specs.declared.value.Side.{Side}
 use Rattle.mb_desc.specs.declared.descriptor.Desc.{Desc}
 use Rattle.mb_desc.specs.declared.descriptor.Full.{Full}
 use Rattle.mb_frames.proofs.Stack.{forms-grow}
-use Rattle.mb_frames.specs.Held.{AreIn, DescIn, Held, HeldArray, HeldBegan, HeldCallable, HeldCollection, HeldConstructor, HeldDesc, HeldEntered, HeldFields, HeldFull, HeldIn, HeldKey, HeldKeyIf, HeldKeys, HeldNode, HeldNodeIf, HeldObject, HeldPlace, HeldPlain, HeldPrototype, HeldReal, HeldScope, HeldSign, HeldText, HeldTextIf, HeldValue, HeldValues}
+use Rattle.mb_frames.specs.Held.{AreIn, DescIn, Held, HeldArray, HeldBegan, HeldCallable, HeldCollection, HeldConstructor, HeldDesc, HeldEntered, HeldFields, HeldFull, HeldFunction, HeldIn, HeldKey, HeldKeyIf, HeldKeys, HeldNode, HeldNodeIf, HeldObject, HeldPlace, HeldPlain, HeldPrototype, HeldReal, HeldScope, HeldSign, HeldText, HeldTextIf, HeldValue, HeldValues, HeldVisited}
 use Rattle.mb_frames.specs.Holding.{StackIn, frame_held}
 use Rattle.mb_frames.specs.Kinds.{is_evaluated}
 use Rattle.mb_frames.specs.Standing.{forms_at}
@@ -60,7 +60,9 @@ module _ (d d' : Data) (i : HasItsIds d) (s : StaysFound d d') where
   sound-stays home (HeldCallable y) h k = s.callable y h k
   sound-stays home (HeldConstructor y) h k = s.constructor y h k
   sound-stays home (HeldPrototype y) h k = k
+  sound-stays home (HeldVisited y) h k = k
   sound-stays home (HeldObject id) h k = k
+  sound-stays home (HeldFunction id) h k = s.functions id k
   sound-stays home (HeldCollection id) h k = s.collection id h k
   sound-stays home (HeldArray id) h k = s.arrays id home k
   sound-stays home (HeldPlain id) h k = s.plain id home k

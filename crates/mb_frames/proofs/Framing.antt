@@ -4,7 +4,7 @@ use Rattle.mb_base.specs.declared.value.ObjId.{ObjId}
 use Rattle.mb_base.specs.declared.value.Side.{Side}
 use Rattle.mb_frames.proofs.Entries.{entry-grows}
 use Rattle.mb_frames.specs.Grammatical.{IsProgram}
-use Rattle.mb_frames.specs.Ready.{AnyEntry, AnyRules, Changed, IsReady, ReadyAfter}
+use Rattle.mb_frames.specs.Ready.{AnyEntry, AnyRules, Changed, HasItsConstant, IsReady, ReadyAfter}
 use Rattle.mb_frames.specs.Wholeness.{FormedAfter, FormedWorld}
 use Rattle.mb_frames.specs.declared.machine.Halt.{Halt}
 use Rattle.mb_frames.specs.declared.machine.Halt.TheVariants.{NoMemory, Spent as SpentHalt}
@@ -15,13 +15,14 @@ use Rattle.mb_world.specs.Contained.{Contained, Paired}
 use Rattle.mb_world.specs.Data.{Data, Script, cell_at}
 use Rattle.mb_world.specs.Formed.{FormedBy, FormedEntry}
 use Rattle.mb_world.specs.Graph as graph
+use Rattle.mb_world.specs.Intrinsics.{intrinsic}
 use Rattle.mb_world.specs.Ids.{EntryIn, HasItsIds, Maybe}
 use Rattle.mb_world.specs.Image.{names_of, rule_in}
 use Rattle.mb_world.specs.declared.cell.Cell.{Cell}
 use Rattle.mb_world.specs.declared.cell.CellKind.TheVariants.{BuiltIn}
 use Rattle.mb_world.specs.declared.entry.Entry.{Entry}
 use Rattle.mb_world.specs.declared.rule.Rule.{Rule}
-use Rattle.std.proofs.Common.{Err, List, Ok, Option, Result, Some, ap, false, map, slice_get, subst, sym, true, ℕ, ◌∙◌, ◌≡◌}
+use Rattle.std.proofs.Common.{Err, List, None, Ok, Option, Result, Some, ap, false, map, slice_get, subst, sym, true, ℕ, ◌∙◌, ◌≡◌, ◌≢◌}
 use Rattle.std.proofs.lemmas.List.Elements.{All-weaker}
 use Rattle.std.specs.Prelude.{All}
 
@@ -86,6 +87,15 @@ module _ (P : Script → Type 0) (R : List graph.Rule → Type 0) (E : graph.Ent
     pub ready-by : HasItsIds d
         → (d.joined ≡ true → (i k : ObjId) (place : ℕ) (c e : Cell) → cell_at d i ≡ Some c → cell_at d k ≡ Some e
         → c.kind ≡ BuiltIn place → e.kind ≡ BuiltIn place → i ≡ k)
-        → (d.joined ≡ false → Contained d) → (d.joined ≡ false → Paired d) → IsReady d
-    ready-by ids one contained paired =
-        record { formed = formed-anyhow; ids = ids; one_built_in = one; contained = contained; paired = paired }
+        → ((id : ObjId) (place : ℕ) (c : Cell) → cell_at d id ≡ Some c → c.kind ≡ BuiltIn place → intrinsic place ≢ None)
+        → All (λ r. HasItsConstant r.kind) d.rules → (d.joined ≡ false → Contained d) → (d.joined ≡ false → Paired d)
+        → IsReady d
+    ready-by ids one table constants contained paired = record {
+      formed = formed-anyhow;
+      ids = ids;
+      one_built_in = one;
+      of_table = table;
+      constants = constants;
+      contained = contained;
+      paired = paired;
+    }

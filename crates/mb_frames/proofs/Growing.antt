@@ -5,7 +5,7 @@ use Rattle.mb_world.proofs.Grow.{FullIn-grows, KeyIn-grows, Maybe-weaker, ValueI
 use Rattle.std.proofs.Common.{arith}
 use Rattle.std.proofs.Common.{◌++◌, Bool, List, None, Option, Some, [], false, refl, true, ℕ, ◌∷◌}
 use Rattle.mb_desc.specs.declared.descriptor.Desc.{Desc}
-use Rattle.mb_frames.specs.Held.{AreIn, DescIn, Held, HeldArray, HeldBegan, HeldCallable, HeldCollection, HeldConstructor, HeldDesc, HeldEntered, HeldFields, HeldFull, HeldIn, HeldKey, HeldKeyIf, HeldKeys, HeldNode, HeldNodeIf, HeldObject, HeldPlace, HeldPlain, HeldPrototype, HeldReal, HeldScope, HeldSign, HeldText, HeldTextIf, HeldValue, HeldValues}
+use Rattle.mb_frames.specs.Held.{AreIn, DescIn, Held, HeldArray, HeldBegan, HeldCallable, HeldCollection, HeldConstructor, HeldDesc, HeldEntered, HeldFields, HeldFull, HeldFunction, HeldIn, HeldKey, HeldKeyIf, HeldKeys, HeldNode, HeldNodeIf, HeldObject, HeldPlace, HeldPlain, HeldPrototype, HeldReal, HeldScope, HeldSign, HeldText, HeldTextIf, HeldValue, HeldValues, HeldVisited}
 use Rattle.mb_frames.specs.Holding.{MachineIn, StackIn, done_held, frame_held, move_held, passage_held, task_held}
 use Rattle.mb_frames.specs.Standing.{Across, Here, Logged, Passage, above, at_home, done_by, left_by, move_of, row_of, under_way}
 use Rattle.mb_frames.specs.Stepping.{HasItsOutcome, IsWait, MayCross, MayPass, Stepped, Written}
@@ -38,7 +38,9 @@ module _ (d d' : Data) (g : Grows d d') where
   held-grows (HeldCallable y) h = ValueIn-grows d d' g y h
   held-grows (HeldConstructor y) h = ValueIn-grows d d' g y h
   held-grows (HeldPrototype y) h = ValueIn-grows d d' g y h
+  held-grows (HeldVisited y) h = ValueIn-grows d d' g y h
   held-grows (HeldObject id) h = omega (arith, h, g.cells_in)
+  held-grows (HeldFunction id) h = omega (arith, h, g.cells_in)
   held-grows (HeldCollection id) h = omega (arith, h, g.cells_in)
   held-grows (HeldArray id) h = omega (arith, h, g.cells_in)
   held-grows (HeldPlain id) h = omega (arith, h, g.cells_in)

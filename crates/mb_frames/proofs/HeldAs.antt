@@ -3,17 +3,20 @@ use Rattle.mb_base.specs.declared.value.ObjId.{ObjId}
 use Rattle.mb_base.specs.declared.value.Side.{Side}
 use Rattle.mb_base.specs.declared.value.StrId.{StrId}
 use Rattle.mb_base.specs.declared.value.Value.{Value}
+use Rattle.mb_base.specs.declared.value.Value.TheVariants as v
 use Rattle.mb_frames.proofs.Errors.{built-in-own, mapped-some, shown-at, stands-there}
 use Rattle.mb_frames.proofs.Throwing.{last-there}
 use Rattle.mb_frames.specs.Found.{HoldsBuiltIn, IsHeldAs}
-use Rattle.mb_frames.specs.Wholeness.{IsCollectionAt, IsOfKind}
+use Rattle.mb_frames.specs.Held.{HeldCallable, HeldFunction}
+use Rattle.mb_frames.specs.Ready.{MayHold}
+use Rattle.mb_frames.specs.Wholeness.{IsCollectionAt, IsOfKind, is_function_kind}
 use Rattle.mb_world.proofs.AfterCalls.{thing-at}
 use Rattle.mb_world.specs.Contained.{IsOwn, is_shadow}
 use Rattle.mb_world.specs.Data.{AtPlace, Data, built_in_of, cell_at, is_collection, is_counted, kind_stand, made, new_cell, serves, stand}
 use Rattle.mb_world.specs.Graph as graph
 use Rattle.mb_world.specs.Graph.{Kind, Thing}
 use Rattle.mb_world.specs.Ids.{ObjIn}
-use Rattle.mb_world.specs.Image.{Image, kind_in, names_of, object_in, stood, thing_in}
+use Rattle.mb_world.specs.Image.{Image, Names, kind_in, names_of, object_in, stood, thing_in}
 use Rattle.mb_world.specs.Intrinsics.{Intrinsic, intrinsic}
 use Rattle.mb_world.specs.Objects.{intrinsic_is, kind_calls, kind_constructs, thing_at, thing_is}
 use Rattle.mb_world.specs.Standard.{calls, constructs, standard, standard_at}
@@ -22,10 +25,10 @@ use Rattle.mb_world.specs.declared.cell.Cell.{Cell}
 use Rattle.mb_world.specs.declared.cell.CellKind.{CellKind}
 use Rattle.mb_world.specs.declared.cell.CellKind.TheVariants as kind
 use Rattle.std.proofs.Common.{Bool, List, None, Option, Some, [], ap, arith, false, get_or, inl, inr, length, option_map, refl, slice_get, sym, true, true≢false, ℕ, ◌<◌, ◌∙◌, ◌∷◌, ◌≡◌, ◌≤◌, ◌⊎◌}
-use Rattle.std.proofs.lemmas.List.Elements.{All-cons, All-nil}
+use Rattle.std.proofs.lemmas.List.Elements.{All-cons, All-head, All-nil}
 use Rattle.std.proofs.lemmas.List.Quantifiers.{position-Some}
 use Rattle.std.proofs.lemmas.Option.{slice_get-map, slice_get_cases, slice_get_within}
-use Rattle.std.specs.Prelude.{All, position}
+use Rattle.std.specs.Prelude.{All, IsSomeAnd, position}
 
 -- ---- what a built-in is by the table
 
@@ -54,7 +57,7 @@ module _ (d : Data) (id : ObjId) (c : Cell) (e : cell_at d id ≡ Some c) where
   pub id-there : ObjIn d id
   id-there = slice_get_within d.cells id.0 c e
 
-  stands-as : (place : ℕ) → stand c ≡ AtPlace place → object_in (names_of d) id ≡ BuiltIn place
+  pub stands-as : (place : ℕ) → stand c ≡ AtPlace place → object_in (names_of d) id ≡ BuiltIn place
   stands-as place s =
       ap (stood (names_of d) id.0) (slice_get-map stand d.cells id.0 ∙ ap (option_map stand) e ∙ ap Some s)
 
@@ -170,3 +173,31 @@ built-in-held d home place id h = by (slice_get_cases d.cells id.0).1
         ⊎ ((length d.cells ≤ id.0) × (slice_get d.cells id.0 ≡ None)) → HoldsBuiltIn d home place id
     by (inl p) = there p.0 p.2
     by (inr p) = absurd (omega (arith, p.0, i))
+
+-- ---- functions
+
+function-calls : (n : Names) (slots : List (Option (Value × Value))) (k : CellKind) → is_function_kind k ≡ true
+    → (kind_calls (kind_in n slots k) ≡ true) × (is_shadow k ≡ false)
+function-calls n slots kind.Plain e = absurd (true≢false (sym e))
+function-calls n slots kind.Array e = absurd (true≢false (sym e))
+function-calls n slots (kind.Function code) e = (refl, refl)
+function-calls n slots (kind.BuiltIn place) e = absurd (true≢false (sym e))
+function-calls n slots (kind.Fault which) e = absurd (true≢false (sym e))
+function-calls n slots (kind.Proxy target handler shape) e = absurd (true≢false (sym e))
+function-calls n slots (kind.Revoker proxy) e = (refl, refl)
+function-calls n slots (kind.Membrane behind shadow) e = absurd (true≢false (sym e))
+function-calls n slots (kind.Shadow shape) e = absurd (true≢false (sym e))
+function-calls n slots (kind.Collection coll) e = absurd (true≢false (sym e))
+
+-- what may be entered may be called
+pub function-callable : (d : Data) (home : Side) (id : ObjId) → MayHold d home (HeldFunction id)
+    → MayHold d home (HeldCallable (v.Object id))
+function-callable d home id h = by (cell_at d id) refl h.sound
+  where
+    by : (o : Option Cell) → cell_at d id ≡ o → IsSomeAnd o (λ c. is_function_kind c.kind ≡ true)
+        → MayHold d home (HeldCallable (v.Object id))
+    by None e p = absurd p
+    by (Some c) e p =
+        let k : (kind_calls (kind_in (names_of d) c.slots c.kind) ≡ true) × (is_shadow c.kind ≡ false)
+        = function-calls (names_of d) c.slots c.kind p in
+        (held-as d id c e home (λ u. (rw e at (All-head (IsOwn d home) id [] (h.own u))).0) k.1).callable k.0

@@ -3,26 +3,29 @@ use Rattle.mb_base.specs.declared.value.Key.{Key}
 use Rattle.mb_base.specs.declared.value.ObjId.{ObjId}
 use Rattle.mb_base.specs.declared.value.ScopeId.{ScopeId}
 use Rattle.mb_base.specs.declared.value.Side.{Side}
+use Rattle.mb_base.specs.declared.value.StrId.{StrId}
 use Rattle.mb_base.specs.declared.value.Value.{Value}
 use Rattle.mb_desc.specs.declared.descriptor.Full.{Full}
 use Rattle.mb_frames.proofs.AfterCalls.{queue-all}
 use Rattle.mb_frames.proofs.Parts.{each-part, left-part, right-part}
 use Rattle.mb_frames.specs.Found.{HoldsCell, HoldsCode, HoldsJob, HoldsKind, HoldsScope}
 use Rattle.mb_frames.specs.Held.{HeldFull, HeldKey, HeldObject, HeldScope, HeldValue}
-use Rattle.mb_frames.specs.Ready.{IsReady, MayHold}
+use Rattle.mb_frames.specs.Ready.{HasItsConstant, IsReady, MayHold}
 use Rattle.mb_world.proofs.Grow.{All-at}
 use Rattle.mb_world.specs.Contained.{IsOwn, in_cell, in_full, in_id, in_job, in_kind, in_option, in_pair, in_scope, in_value, scope_home}
 use Rattle.mb_world.specs.Data.{Data, cell_at, property_at, property_in, queue_of, scope_at}
 use Rattle.mb_world.specs.Formed.{FormedCell, FormedScope, HasItsCallables, HasItsKind, InRange, IsCallable, IsFunction, full_values, job_values, kind_values, option_values, pair_values}
-use Rattle.mb_world.specs.Ids.{CellIn, FullIn, JobIn, KindIn, Maybe, PairIn, ScopeOf, ValueIn}
+use Rattle.mb_world.specs.Ids.{CellIn, FullIn, JobIn, KindIn, Maybe, PairIn, RuleIn, RuleKindIn, ScopeOf, ValueIn}
 use Rattle.mb_world.specs.declared.cell.Cell.{Cell}
 use Rattle.mb_world.specs.declared.cell.CellKind.{CellKind}
 use Rattle.mb_world.specs.declared.cell.CellKind.TheVariants as kind
 use Rattle.mb_world.specs.declared.cell.Code.{Code}
+use Rattle.mb_world.specs.declared.rule.Rule.{Rule}
+use Rattle.mb_world.specs.declared.rule.RuleKind.TheVariants.{Substitute}
 use Rattle.mb_world.specs.declared.scope.Job.{Job}
 use Rattle.mb_world.specs.declared.scope.Job.TheVariants as j
 use Rattle.mb_world.specs.declared.scope.Scope.{Scope}
-use Rattle.std.proofs.Common.{Bool, List, None, Option, Some, [], ap, false, is_some, length, refl, slice_index_or, subst, ℕ, ◌++◌, ◌<◌, ◌∷◌, ◌≡◌}
+use Rattle.std.proofs.Common.{Bool, List, None, Option, Some, [], ap, false, is_some, length, refl, slice_get, slice_index_or, subst, ℕ, ◌++◌, ◌<◌, ◌∷◌, ◌≡◌}
 use Rattle.std.proofs.lemmas.List.Elements.{All-cons, All-head, All-nil, All-tail, All-weaker, recursion_from_All}
 use Rattle.std.proofs.lemmas.Map.Entries.{All-lookup}
 use Rattle.std.specs.List.{flat_map}
@@ -229,3 +232,13 @@ module _ (d : Data) (r : IsReady d) where
       job-held home (slice_index_or (queue_of d home) n x) (queue-all (JobIn d) d.queues r.ids.queues_in home.0 n x l)
       (queue-all (λ (y : Job). All (IsCallable d) (job_values y)) d.queues r.formed.jobs home.0 n x l)
       (λ u. (r.contained u).jobs_own home i n x l)
+
+  -- a rule's constant
+  pub constant-held : (home : Side) (place : ℕ) (rule : Rule) (key : StrId) (value : Value)
+      → slice_get d.rules place ≡ Some rule → rule.kind ≡ Substitute key value → MayHold d home (HeldValue value)
+  constant-held home place rule key value e k =
+      let i : RuleKindIn d (Substitute key value)
+      = subst (RuleKindIn d) k (All-at (RuleIn d) d.rules place rule e r.ids.rules_in).1 in
+      let c : HasItsConstant (Substitute key value)
+      = subst HasItsConstant k (All-at (λ (x : Rule). HasItsConstant x.kind) d.rules place rule e r.constants) in
+      value-held d home value i.1 c.1 (λ u. rw c.0 (All-nil (IsOwn d home)))

@@ -8,9 +8,9 @@ use Rattle.mb_base.specs.declared.value.Value.TheVariants as v
 use Rattle.mb_desc.specs.declared.descriptor.Full.{Full}
 use Rattle.mb_desc.specs.declared.descriptor.Full.TheVariants.{Datum, Accessor}
 use Rattle.mb_frames.proofs.Parts.{each-part, left-part, right-part}
-use Rattle.mb_frames.specs.Held.{Held, HeldArray, HeldBegan, HeldCallable, HeldCollection, HeldConstructor, HeldDesc, HeldEntered, HeldFields, HeldFull, HeldKey, HeldKeyIf, HeldKeys, HeldNode, HeldNodeIf, HeldObject, HeldPlace, HeldPlain, HeldPrototype, HeldReal, HeldScope, HeldSign, HeldText, HeldTextIf, HeldValue, HeldValues}
+use Rattle.mb_frames.specs.Held.{Held, HeldArray, HeldBegan, HeldCallable, HeldCollection, HeldConstructor, HeldDesc, HeldEntered, HeldFields, HeldFull, HeldFunction, HeldKey, HeldKeyIf, HeldKeys, HeldNode, HeldNodeIf, HeldObject, HeldPlace, HeldPlain, HeldPrototype, HeldReal, HeldScope, HeldSign, HeldText, HeldTextIf, HeldValue, HeldValues, HeldVisited}
 use Rattle.mb_frames.specs.Ready.{Holds, MayHold}
-use Rattle.mb_frames.specs.Wholeness.{IsConstructor}
+use Rattle.mb_frames.specs.Wholeness.{IsConstructor, IsFunctionAt}
 use Rattle.mb_world.specs.Contained.{IsOwn, in_value}
 use Rattle.mb_world.specs.Data.{Data}
 use Rattle.mb_world.specs.Formed.{InRange, IsCallable, IsCallableOrNot, is_whole}
@@ -79,6 +79,19 @@ module _ (d : Data) (home : Side) where
 
   pub collection-object : (id : ObjId) → MayHold d home (HeldCollection id) → MayHold d home (HeldObject id)
   collection-object id h = record { within = h.within; sound = tt; own = h.own }
+
+  pub function-object : (id : ObjId) → MayHold d home (HeldFunction id) → MayHold d home (HeldObject id)
+  function-object id h = record { within = h.within; sound = tt; own = h.own }
+
+  -- what the walk visits is of any side
+  pub prototype-visited : (x : Value) → MayHold d home (HeldPrototype x) → MayHold d home (HeldVisited x)
+  prototype-visited x h = record { within = h.within; sound = h.sound; own = λ u. All-nil (IsOwn d home) }
+
+  -- ---- what was found of objects
+
+  pub as-function : (id : ObjId) → MayHold d home (HeldObject id) → IsFunctionAt d id
+      → MayHold d home (HeldFunction id)
+  as-function id h k = record { within = h.within; sound = k; own = h.own }
 
   -- ---- what was found of values
 
@@ -227,7 +240,9 @@ module _ (d : Data) (one other : Side) (j : d.joined ≡ true) where
   held-anywhere (HeldCallable y) e h = record { within = h.within; sound = h.sound; own = λ u. absurd (never u) }
   held-anywhere (HeldConstructor y) e h = record { within = h.within; sound = h.sound; own = λ u. absurd (never u) }
   held-anywhere (HeldPrototype y) e h = record { within = h.within; sound = h.sound; own = λ u. absurd (never u) }
+  held-anywhere (HeldVisited y) e h = record { within = h.within; sound = h.sound; own = λ u. absurd (never u) }
   held-anywhere (HeldObject id) e h = record { within = h.within; sound = h.sound; own = λ u. absurd (never u) }
+  held-anywhere (HeldFunction id) e h = record { within = h.within; sound = h.sound; own = λ u. absurd (never u) }
   held-anywhere (HeldCollection id) e h = record { within = h.within; sound = h.sound; own = λ u. absurd (never u) }
   held-anywhere (HeldArray id) e h = absurd (true≢false (sym e))
   held-anywhere (HeldPlain id) e h = absurd (true≢false (sym e))

@@ -1,4 +1,5 @@
 -- What parts of rows leave and keep: nodes that may be held, moves that may be left, and parts after parts.
+use Rattle.mb_frames.specs.Wholeness.{IsFitBegun, IsFitFrame, IsFitTask}
 use Rattle.mb_base.specs.declared.value.NodeId.{NodeId}
 use Rattle.mb_base.specs.declared.value.Side.{Side}
 use Rattle.mb_base.specs.declared.value.Value.{Value}
@@ -76,25 +77,26 @@ module _ (d : Data) (home : Side) where
   -- ---- moves
 
   pub leaves-value : (x : Value) → MayHold d home (HeldValue x) → Leaves d home AValue (move.Done (o.Normal (a.Value x)))
-  leaves-value x h = record { holds = (h, tt); gives = gives-value d home x }
+  leaves-value x h = record { holds = (h, tt); fit = tt; gives = gives-value d home x }
 
   pub leaves-throw : (wanted : Sort) (x : Value) → MayHold d home (HeldValue x)
       → Leaves d home wanted (move.Done (o.Throw x))
-  leaves-throw wanted x h = record { holds = (h, tt); gives = gives-throw d home wanted x }
+  leaves-throw wanted x h = record { holds = (h, tt); fit = tt; gives = gives-throw d home wanted x }
 
   -- a statement's part ends in any way
   pub leaves-any : (y : Outcome) → Holds d home (outcome_held y) → Leaves d home ACompletion (move.Done y)
-  leaves-any y h = record { holds = h; gives = gives-any d home y }
+  leaves-any y h = record { holds = h; fit = tt; gives = gives-any d home y }
 
-  pub leaves-next : (t : Task) → Holds d home (task_held t) → Leaves d home ACompletion (move.Next t)
-  leaves-next t h = record { holds = h; gives = gives-next d home t }
+  pub leaves-next : (t : Task) → Holds d home (task_held t) → IsFitTask d t → Leaves d home ACompletion (move.Next t)
+  leaves-next t h n = record { holds = h; fit = n; gives = gives-next d home t }
 
-  pub leaves-anew : (t : Task) → Holds d home (task_held t) → Leaves d home ACompletion (move.Anew t)
-  leaves-anew t h = record { holds = h; gives = gives-anew d home t }
+  pub leaves-anew : (t : Task) → Holds d home (task_held t) → IsFitBegun d t → Leaves d home ACompletion (move.Anew t)
+  leaves-anew t h n = record { holds = h; fit = n; gives = gives-anew d home t }
 
   pub leaves-wait : (wanted : Sort) (y : Frame) (t : Task) → Holds d home (frame_held y) → Holds d home (task_held t)
-      → Gives d home wanted (move.Wait y t) → Leaves d home wanted (move.Wait y t)
-  leaves-wait wanted y t h k g = record { holds = all-both (MayHold d home) (frame_held y) (task_held t) h k; gives = g }
+      → IsFitFrame d y → IsFitTask d t → Gives d home wanted (move.Wait y t) → Leaves d home wanted (move.Wait y t)
+  leaves-wait wanted y t h k w n g =
+      record { holds = all-both (MayHold d home) (frame_held y) (task_held t) h k; fit = (w, n); gives = g }
 
   module _ (node : NodeId) (at : Context) (scope : Holds d home (HeldScope at.scope ∷ HeldValue at.this ∷ [])) where
     -- the task of a node
@@ -104,12 +106,13 @@ module _ (d : Data) (home : Side) where
     module _ (h : MayHold d home (HeldNode is_expression node.0)) where
       pub leaves-expression : Leaves d home AValue (move.Next (task.Evaluate node at))
       leaves-expression =
-          record { holds = evaluates (evaluated-held node h); gives = gives-expression d home node at h.sound }
+          record { holds = evaluates (evaluated-held node h); fit = tt; gives = gives-expression d home node at h.sound }
 
-      pub leaves-waiting : (wanted : Sort) (y : Frame) → Holds d home (frame_held y) → waits_for y AValue ≡ true
+      pub leaves-waiting : (wanted : Sort) (y : Frame) → Holds d home (frame_held y) → IsFitFrame d y → waits_for y AValue ≡ true
           → fits (frame_sort (forms_at d home) y AValue) wanted ≡ true
           → Leaves d home wanted (move.Wait y (task.Evaluate node at))
-      leaves-waiting wanted y k e f = leaves-wait wanted y (task.Evaluate node at) k (evaluates (evaluated-held node h))
+      leaves-waiting wanted y k w e f = leaves-wait wanted y (task.Evaluate node at) k
+          (evaluates (evaluated-held node h)) w tt
           (waits-expression d home node at h.sound wanted y e f)
 
 -- ---- parts after parts

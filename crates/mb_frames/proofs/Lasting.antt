@@ -6,7 +6,8 @@ use Rattle.mb_base.specs.declared.value.Value.{Value}
 use Rattle.mb_frames.proofs.AfterCalls.{at-first, still}
 use Rattle.mb_frames.proofs.Placed.{set-forth}
 use Rattle.mb_frames.specs.Stepping.{Grew}
-use Rattle.mb_frames.specs.Wholeness.{IsCollectionAt, IsCollectionKind, IsConstructor, IsProxyAt, KeepsCell, KeepsKind, StaysFound}
+use Rattle.mb_ordinary.specs.Objects.{is_ordinary}
+use Rattle.mb_frames.specs.Wholeness.{is_function_kind, IsCollectionAt, IsCollectionKind, IsConstructor, IsProxyAt, KeepsCell, KeepsKind, StaysFound}
 use Rattle.mb_world.proofs.Grow.{All-at}
 use Rattle.mb_world.proofs.Images.{things-grow, value-grows}
 use Rattle.mb_world.specs.Contained.{IsMembrane, scope_home}
@@ -20,7 +21,7 @@ use Rattle.mb_world.specs.Value.{BuiltIn, Null, Object, Symbol, Text, Truth, Und
 use Rattle.mb_world.specs.declared.cell.Cell.{Cell}
 use Rattle.mb_world.specs.declared.cell.CellKind.{CellKind}
 use Rattle.mb_world.specs.declared.cell.CellKind.TheVariants as kind
-use Rattle.std.proofs.Common.{Bool, List, None, Option, Some, [], ap, arith, inl, inr, refl, slice_get, slice_set, subst, sym, true, ℕ, ◌++◌, ◌∙◌, ◌∷◌, ◌≡◌}
+use Rattle.std.proofs.Common.{Bool, List, None, Option, Some, [], ap, arith, inl, inr, length, refl, slice_get, slice_set, subst, sym, true, true≢false, ℕ, ◌++◌, ◌∙◌, ◌∷◌, ◌≡◌, ◌≤◌}
 use Rattle.std.specs.Prelude.{IsSomeAnd}
 
 -- ---- things of one kind
@@ -47,7 +48,7 @@ abbrev pub KeepsThings : Data → Data → Type 0
 KeepsThings d d' = (x : Val) (t : Thing) → thing_at (Image d []) x ≡ Some t →
     (u : Thing) × (thing_at (Image d' []) x ≡ Some u) × IsLike t u
 
-things-same : (d d' : Data) → (Image d' []).objects ≡ (Image d []).objects → KeepsThings d d'
+pub things-same : (d d' : Data) → (Image d' []).objects ≡ (Image d []).objects → KeepsThings d d'
 things-same d d' e Undefined t h = (t, h, like-same t t refl)
 things-same d d' e Null t h = (t, h, like-same t t refl)
 things-same d d' e (Truth b) t h = (t, h, like-same t t refl)
@@ -92,14 +93,15 @@ things-set d d' n x y e g k (BuiltIn place) t h = (t, h, like-same t t refl)
 
 -- ---- worlds that last
 
--- each cell and each object keeps its kind, and scopes their homes; entries, rules and the flags are as they were
+-- each cell and each object keeps its kind, and scopes their homes; rules and the flags are as they were, and no entry
+-- is lost
 pub record Lasts (d d' : Data) : Type 0 where
   pub grew : Grew d d'
   pub cells : (id : ObjId) (c : Cell) → cell_at d id ≡ Some c →
       (e : Cell) × (cell_at d' id ≡ Some e) × KeepsCell d d' c e
   pub things : KeepsThings d d'
   pub scopes : (id : ScopeId) (home : Side) → scope_home d id home → scope_home d' id home
-  pub entries : d'.entries ≡ d.entries
+  pub entries : length d.entries ≤ length d'.entries
   pub rules : d'.rules ≡ d.rules
   pub revoked : d'.revoked ≡ d.revoked
 
@@ -117,7 +119,7 @@ lasts-still d d' i g e s n r v = record {
   things = things-same d d'
       (ap (λ (cs : List Cell). things_in (names_of d') cs) e ∙ things-grow d d' g.grows d.cells i.cells_in);
   scopes = s;
-  entries = n;
+  entries = rw n (omega arith);
   rules = r;
   revoked = v;
 }
@@ -133,6 +135,31 @@ array-kept k later h e = subst (λ (w : CellKind). KeepsKind w later) e h
 
 plain-kept : (k later : CellKind) → KeepsKind k later → k ≡ kind.Plain → later ≡ kind.Plain
 plain-kept k later h e = subst (λ (w : CellKind). KeepsKind w later) e h
+
+-- but a Proxy an object keeps its kind
+ordinary-kept : (k later : CellKind) → KeepsKind k later → is_ordinary k ≡ true → later ≡ k
+ordinary-kept kind.Plain later h e = h
+ordinary-kept kind.Array later h e = h
+ordinary-kept (kind.Function code) later h e = h
+ordinary-kept (kind.BuiltIn place) later h e = h
+ordinary-kept (kind.Fault which) later h e = h
+ordinary-kept (kind.Proxy target handler shape) later h e = absurd (true≢false (sym e))
+ordinary-kept (kind.Revoker proxy) later h e = h
+ordinary-kept (kind.Membrane behind shadow) later h e = absurd (true≢false (sym e))
+ordinary-kept (kind.Shadow shape) later h e = h
+ordinary-kept (kind.Collection coll) later h e = h
+
+function-ordinary : (k : CellKind) → is_function_kind k ≡ true → is_ordinary k ≡ true
+function-ordinary kind.Plain e = absurd (true≢false (sym e))
+function-ordinary kind.Array e = absurd (true≢false (sym e))
+function-ordinary (kind.Function code) e = refl
+function-ordinary (kind.BuiltIn place) e = absurd (true≢false (sym e))
+function-ordinary (kind.Fault which) e = absurd (true≢false (sym e))
+function-ordinary (kind.Proxy target handler shape) e = absurd (true≢false (sym e))
+function-ordinary (kind.Revoker proxy) e = refl
+function-ordinary (kind.Membrane behind shadow) e = absurd (true≢false (sym e))
+function-ordinary (kind.Shadow shape) e = absurd (true≢false (sym e))
+function-ordinary (kind.Collection coll) e = absurd (true≢false (sym e))
 
 module _ (d d' : Data) (l : Lasts d d') where
   -- what the cell of an id passes, if there is one, the later one passes
@@ -191,6 +218,8 @@ module _ (d d' : Data) (l : Lasts d d') where
     grew = l.grew;
     callable = callable-stays;
     constructor = constructor-stays;
+    functions = λ id h. some-cell (λ c. is_function_kind c.kind ≡ true) (λ c. is_function_kind c.kind ≡ true)
+        (λ c e k p. rw (ordinary-kept c.kind e.kind k.kind (function-ordinary c.kind p)) p) id h;
     collection = collection-stays;
     arrays = λ id home h. some-cell (λ c. (c.home ≡ home) × (c.kind ≡ kind.Array))
         (λ c. (c.home ≡ home) × (c.kind ≡ kind.Array))
@@ -199,6 +228,6 @@ module _ (d d' : Data) (l : Lasts d d') where
         (λ c. (c.home ≡ home) × (c.kind ≡ kind.Plain))
         (λ c e k p. (k.home ∙ p.0, plain-kept c.kind e.kind k.kind p.1)) id h;
     scopes = λ id home i h. l.scopes id home h;
-    entries = rw l.entries (omega arith);
+    entries = l.entries;
     proxies = proxy-stays;
   }

@@ -68,12 +68,12 @@ module _ (d : Data) (home : Side) (wanted : Sort) (inside : home.0 < d.sides) wh
   leaves-formed (move.Wait y t) h =
       let s : AreSound d home (frame_held y) × AreSound d home (task_held t)
       = both-sound (frame_held y) (task_held t) h.holds in
-      wait-formed d home wanted inside y t s.0 s.1 h.gives.0 h.gives.1
+      wait-formed d home wanted inside y t s.0 s.1 h.fit.0 h.fit.1 h.gives.0 h.gives.1
   leaves-formed (move.Next t) h =
-      next-formed d home wanted inside t (holds-sound d home (task_held t) h.holds) h.gives
+      next-formed d home wanted inside t (holds-sound d home (task_held t) h.holds) h.fit h.gives
   leaves-formed (move.Anew t) h =
-      anew-formed d home wanted inside t (holds-sound d home (task_held t) h.holds) h.gives
+      anew-formed d home wanted inside t (holds-sound d home (task_held t) h.holds) h.fit h.gives
   leaves-formed (move.Entered y t) h =
       let s : AreSound d home (frame_held y) × AreSound d home (task_held t)
       = both-sound (frame_held y) (task_held t) h.holds in
-      entered-formed d home wanted inside y t s.0 s.1 h.gives.0 h.gives.1
+      entered-formed d home wanted inside y t s.0 s.1 h.fit.0 h.fit.1 h.gives.0 h.gives.1

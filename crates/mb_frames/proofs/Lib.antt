@@ -40,3 +40,6 @@ pub mod Made
 pub mod Opened
 pub mod Constructing
 pub mod Halting
+pub mod Noting
+pub mod Standard
+pub mod Calling

@@ -152,10 +152,10 @@ frame-fits fs (x.Anew y) a b h = fits-same (frame_sort fs (x.Anew y) a)
 frame-fits fs (x.Expr y) a b h = refl
 frame-fits fs (x.Stmt y) a b h = refl
 frame-fits fs (x.Call y) a b h = fits-same (frame_sort fs (x.Call y) a)
-frame-fits fs (x.Reflect y) a b h = refl
-frame-fits fs (x.Array y) a b h = refl
+frame-fits fs (x.Reflect y) a b h = fits-same (frame_sort fs (x.Reflect y) a)
+frame-fits fs (x.Array y) a b h = fits-same (frame_sort fs (x.Array y) a)
 frame-fits fs (x.Proxy y) a b h = fits-same (frame_sort fs (x.Proxy y) a)
-frame-fits fs (x.Collect y) a b h = refl
+frame-fits fs (x.Collect y) a b h = fits-same (frame_sort fs (x.Collect y) a)
 frame-fits fs (x.Membrane m.Crossing) a b h = h
 frame-fits fs (x.Membrane (m.TrapGot owner target handler method)) a b h =
     fits-same (frame_sort fs (x.Membrane (m.TrapGot owner target handler method)) a)

@@ -20,9 +20,10 @@ use Rattle.mb_world.proofs.Grow.{All-at, Hold-grows, Hold-queues, Hold-scopes, H
 use Rattle.mb_world.proofs.Images.{thing-grows}
 use Rattle.mb_world.proofs.Making.{Grows-scope, Grows-symbol}
 use Rattle.mb_world.proofs.Worlds.{Grows-queues, Grows-scopes}
-use Rattle.mb_world.specs.Contained.{IsOwn, in_job, in_scope, scope_home}
+use Rattle.mb_world.specs.declared.entry.Entry.{Entry}
+use Rattle.mb_world.specs.Contained.{Contained, IsOwn, Paired, in_job, in_scope, scope_home}
 use Rattle.mb_world.specs.Data.{AtPlace, Data, built_in_of, cell_at, scope_at, set_scope, stand, with_queue, with_scope, with_symbol, with_texts}
-use Rattle.mb_world.specs.Formed.{FormedBy, FormedCell, FormedScope, HasBuiltIn, IsCallable, as_standard, is_of_membrane, job_values}
+use Rattle.mb_world.specs.Formed.{FormedBy, FormedCell, FormedEntry, FormedScope, HasBuiltIn, IsCallable, as_standard, is_of_membrane, job_values}
 use Rattle.mb_world.specs.Graph.{Thing}
 use Rattle.mb_world.specs.Grows.{Grows}
 use Rattle.mb_world.specs.Ids.{CellIn, HasItsIds, Hold, JobIn, Maybe, ScopeOf, TextIn}
@@ -60,11 +61,13 @@ module _ (home : Side) (d d' : Data) (r : IsReady d) (l : Lasts d d') (b : Keeps
   was-joined : {j : _} → d'.joined ≡ j → d.joined ≡ j
   was-joined u = sym l.grew.joined ∙ u
 
-  formed-by : All (FormedCell d') d'.cells
+  pub formed-by : All (FormedCell d') d'.cells
       → (d.joined ≡ true → All (λ c. is_of_membrane c.kind ≡ false) d'.cells)
       → ((id : ScopeId) (s : Scope) → scope_at d' id ≡ Some s → FormedScope d' id.0 s)
-      → All (All (λ x. All (IsCallable d') (job_values x))) d'.queues → FormedBy IsProgram AnyRules AnyEntry d'
-  formed-by cells parts scopes jobs = record {
+      → All (All (λ x. All (IsCallable d') (job_values x))) d'.queues
+      → ((place : ℕ) (e : Entry) → slice_get d'.entries place ≡ Some e → FormedEntry AnyEntry d' place e)
+      → FormedBy IsProgram AnyRules AnyEntry d'
+  formed-by cells parts scopes jobs entries = record {
     sides = rw l.grew.sides r.formed.sides;
     built_ins = λ side place i n.
         has-built-in side place (r.formed.built_ins side place (rw (← l.grew.sides) i) n);
@@ -79,29 +82,39 @@ module _ (home : Side) (d d' : Data) (r : IsReady d) (l : Lasts d d') (b : Keeps
     cells = cells;
     scopes = scopes;
     jobs = jobs;
-    entries = λ place e h.
-        entry-stays d d' r.ids l place e (r.formed.entries place e (rw (← l.entries) h));
+    entries = entries;
   }
 
-  pub changed-by : All (FormedCell d') d'.cells
+  pub ready-still : FormedBy IsProgram AnyRules AnyEntry d' → HasItsIds d' → (d'.joined ≡ false → Contained d')
+      → (d'.joined ≡ false → Paired d') → IsReady d'
+  ready-still formed ids contained paired = record {
+    formed = formed;
+    ids = ids;
+    one_built_in = λ u i k place c e p q v w.
+        let x : (y : Cell) × (cell_at d i ≡ Some y) × (y.kind ≡ kind.BuiltIn place) = b.back i c place p v in
+        let z : (y : Cell) × (cell_at d k ≡ Some y) × (y.kind ≡ kind.BuiltIn place) = b.back k e place q w in
+        r.one_built_in (was-joined u) i k place x.0 z.0 x.1 z.1 x.2 z.2;
+    of_table = λ i place c p v.
+        let x : (y : Cell) × (cell_at d i ≡ Some y) × (y.kind ≡ kind.BuiltIn place) = b.back i c place p v in
+        r.of_table i place x.0 x.1 x.2;
+    constants = rw l.rules r.constants;
+    contained = contained;
+    paired = paired;
+  }
+
+  pub changed-by : d'.entries ≡ d.entries → All (FormedCell d') d'.cells
       → (d.joined ≡ true → All (λ c. is_of_membrane c.kind ≡ false) d'.cells)
       → ((id : ScopeId) (s : Scope) → scope_at d' id ≡ Some s → FormedScope d' id.0 s)
       → All (All (λ x. All (IsCallable d') (job_values x))) d'.queues → HasItsIds d'
       → (d.joined ≡ false → KeptWorld home d d') → Changed home d d'
-  changed-by cells parts scopes jobs ids kept = record {
-    ready = record {
-      formed = formed-by cells parts scopes jobs;
-      ids = ids;
-      one_built_in = λ u i k place c e p q v w.
-          let x : (y : Cell) × (cell_at d i ≡ Some y) × (y.kind ≡ kind.BuiltIn place) = b.back i c place p v in
-          let z : (y : Cell) × (cell_at d k ≡ Some y) × (y.kind ≡ kind.BuiltIn place) = b.back k e place q w in
-          r.one_built_in (was-joined u) i k place x.0 z.0 x.1 z.1 x.2 z.2;
-      contained = λ u. (kept (was-joined u)).contained;
-      paired = λ u. (kept (was-joined u)).paired.paired;
-    };
+  changed-by same cells parts scopes jobs ids kept = record {
+    ready = ready-still
+        (formed-by cells parts scopes jobs
+        (λ place e h. entry-stays d d' r.ids l place e (r.formed.entries place e (rw (← same) h))))
+        ids (λ u. (kept (was-joined u)).contained) (λ u. (kept (was-joined u)).paired.paired);
     found = lasting-found d d' l;
     rules = l.rules;
-    entries = l.entries;
+    entries = same;
     kept = kept;
   }
 
@@ -139,14 +152,14 @@ changed-then home d1 d2 d3 h k = record {
 
 -- ---- changes that leave the cells
 
-same-built-ins : (d d' : Data) → d'.cells ≡ d.cells → d'.joined ≡ d.joined → KeepsBuiltIns d d'
+pub same-built-ins : (d d' : Data) → d'.cells ≡ d.cells → d'.joined ≡ d.joined → KeepsBuiltIns d d'
 same-built-ins d d' e u = record {
   steady = λ id c place h s. ap (λ (cs : List Cell). slice_get cs id.0) e ∙ h;
   first = λ side place id h. rw (e, u) h;
   back = λ id c place h k. (c, ap (λ (cs : List Cell). slice_get cs id.0) (sym e) ∙ h, k);
 }
 
-at-end : {A : Type 0} (xs : List A) (x y : A) (n : ℕ) → slice_get (xs ++ (x ∷ [])) n ≡ Some y
+pub at-end : {A : Type 0} (xs : List A) (x y : A) (n : ℕ) → slice_get (xs ++ (x ∷ [])) n ≡ Some y
     → (slice_get xs n ≡ Some y) ⊎ ((n ≡ length xs) × (y ≡ x))
 at-end [] x y zero e = inr (refl, cc)
 at-end [] x y (suc n) e = cc
@@ -189,7 +202,7 @@ module _ (home : Side) (d : Data) (r : IsReady d) where
       let l : Lasts d d' = lasts-still d d' r.ids (record { grows = g; programs = refl; sides = refl; joined = refl })
       refl (λ id home h. h) refl refl refl in
       let b : KeepsBuiltIns d d' = same-built-ins d d' refl refl in
-      changed-by home d d' r l b (cells-stay d d' r l) no-parts (scopes-stay home d d' r l b)
+      changed-by home d d' r l b refl (cells-stay d d' r l) no-parts (scopes-stay home d d' r l b)
       (queues-stay home d d' r l b) (all-grow home d d' r l b)
       (λ u. text-kept home d r.ids (r.contained u) (r.paired u) t)
 
@@ -201,7 +214,7 @@ module _ (home : Side) (d : Data) (r : IsReady d) where
       refl (λ id home h. h) refl refl refl in
       let b : KeepsBuiltIns d d' = same-built-ins d d' refl refl in
       let o : Hold d' d.symbols d.programs d.cells d.scopes d.queues d.rules d.entries = all-grow home d d' r l b in
-      changed-by home d d' r l b (cells-stay d d' r l) no-parts (scopes-stay home d d' r l b)
+      changed-by home d d' r l b refl (cells-stay d d' r l) no-parts (scopes-stay home d d' r l b)
       (queues-stay home d d' r l b)
       (Hold-symbols d' d.symbols d.programs d.cells d.scopes d.queues d.rules d.entries o d'.symbols
       (All-push (Maybe (TextIn d')) d.symbols x o.symbols_in
@@ -217,7 +230,7 @@ module _ (home : Side) (d : Data) (r : IsReady d) where
       refl (some-scope d d' (λ id x h. (x, at-first d.scopes s x id.0 h, refl))) refl refl refl in
       let b : KeepsBuiltIns d d' = same-built-ins d d' refl refl in
       let o : Hold d' d.symbols d.programs d.cells d.scopes d.queues d.rules d.entries = all-grow home d d' r l b in
-      changed-by home d d' r l b (cells-stay d d' r l) no-parts
+      changed-by home d d' r l b refl (cells-stay d d' r l) no-parts
       (λ id x h. elim (at-end d.scopes s x id.0 h) [
         | inl p ↦ scopes-stay home d d' r l b id x p
         | inr p ↦ rw (p.0, p.1) (scope-stays d d' r.ids l (length d.scopes) s f)
@@ -240,7 +253,7 @@ module _ (home : Side) (d : Data) (r : IsReady d) where
       ])) refl refl refl in
       let b : KeepsBuiltIns d d' = same-built-ins d d' refl refl in
       let o : Hold d' d.symbols d.programs d.cells d.scopes d.queues d.rules d.entries = all-grow home d d' r l b in
-      changed-by home d d' r l b (cells-stay d d' r l) no-parts
+      changed-by home d d' r l b refl (cells-stay d d' r l) no-parts
       (λ k x u. elim (at-set d.scopes id.0 t x k.0 u) [
         | inl p ↦ scopes-stay home d d' r l b k x p
         | inr p ↦ rw (p.0, p.1) (scope-stays d d' r.ids l id.0 t f)
@@ -260,7 +273,7 @@ module _ (home : Side) (d : Data) (r : IsReady d) where
       refl (λ id home h. h) refl refl refl in
       let b : KeepsBuiltIns d d' = same-built-ins d d' refl refl in
       let o : Hold d' d.symbols d.programs d.cells d.scopes d.queues d.rules d.entries = all-grow home d d' r l b in
-      changed-by home d d' r l b (cells-stay d d' r l) no-parts (scopes-stay home d d' r l b)
+      changed-by home d d' r l b refl (cells-stay d d' r l) no-parts (scopes-stay home d d' r l b)
       (All-set (All (λ x. All (IsCallable d') (job_values x))) d.queues home.0 jobs (jobs-stay d d' r.ids l jobs n f)
       (queues-stay home d d' r l b))
       (Hold-queues d' d.symbols d.programs d.cells d.scopes d.queues d.rules d.entries o d'.queues

@@ -133,7 +133,7 @@ module _ (home : Side) (d : Data) (y : CellKind) (proto : Value) (label : Option
     things = things-more d later (thing_in (names_of later) new)
         (ap (λ (g : Graph). g.objects) (made-object.becomes.image []));
     scopes = λ id side h. h;
-    entries = refl;
+    entries = omega arith;
     rules = refl;
     revoked = refl;
   }
@@ -180,7 +180,7 @@ module _ (home : Side) (d : Data) (y : CellKind) (proto : Value) (label : Option
       let b : KeepsBuiltIns d later = made-built-ins in
       let o : Hold later d.symbols d.programs d.cells d.scopes d.queues d.rules d.entries
       = all-grow home d later r l b in
-      changed-by home d later r l b (All-push (FormedCell later) d.cells new (cells-stay d later r l) new-formed)
+      changed-by home d later r l b refl (All-push (FormedCell later) d.cells new (cells-stay d later r l) new-formed)
       (λ u. All-push (λ (c : Cell). is_of_membrane c.kind ≡ false) d.cells new (r.formed.joined u).membrane
       (no-part y m.counted))
       (scopes-stay home d later r l b) (queues-stay home d later r l b)
@@ -287,7 +287,7 @@ module _ (home : Side) (d : Data) (id : ObjId) (x y : Cell) (r : IsReady d) (e :
         (ap (λ (g : Graph). g.objects) (Image-set d id x y [] e same-stand (ap is_counted was-counted))) its-thing
         (like-kept (names_of d) x y x.kind y.kind refl refl m.keeps.kind);
     scopes = λ n side h. h;
-    entries = refl;
+    entries = omega arith;
     rules = refl;
     revoked = refl;
   }
@@ -319,7 +319,7 @@ module _ (home : Side) (d : Data) (id : ObjId) (x y : Cell) (r : IsReady d) (e :
       let b : KeepsBuiltIns d written = written-built-ins in
       let o : Hold written d.symbols d.programs d.cells d.scopes d.queues d.rules d.entries
       = all-grow home d written r l b in
-      changed-by home d written r l b
+      changed-by home d written r l b refl
       (All-set (FormedCell written) d.cells id.0 y
       (cell-stays d written r.ids l y m.cell_in (behind-none d y.kind no-part-now) m.formed) (cells-stay d written r l))
       (λ u. All-set (λ (c : Cell). is_of_membrane c.kind ≡ false) d.cells id.0 y no-part-now

@@ -101,7 +101,7 @@ under-grows w d d' i g (y ∷ ys) h r =
     and_then-same (under (hands w d') ys r) (hands w d' y) (hands w d y) (hands-grow w d d' i g y h.0)
     ∙ ap (λ q. and_then q (hands w d y)) (under-grows w d d' i g ys h.1 r)
 
-under-spent : (w : Tasks) (d : Data) (ys : List Waiting) (k : Graph) (f : ℕ)
+pub under-spent : (w : Tasks) (d : Data) (ys : List Waiting) (k : Graph) (f : ℕ)
     → under (hands w d) ys (Spent k f) ≡ Spent k f
 under-spent w d [] k f = refl
 under-spent w d (y ∷ ys) k f = ap (λ q. and_then q (hands w d y)) (under-spent w d ys k f)
@@ -176,11 +176,19 @@ rest-stays w m m' d d' f f' l l' q log e i r h =
     ∙ part-stays w m m' d d' f f' l l' q log e i r q.below h
     ∙ ap (λ ys. stack_gives w d ys m.done (Image d log) f) (sym q.was)
 
--- one that can't pay: the rest is spent
+-- one that can't pay: the rest is spent, whatever tasks do, if the top frame gives what its row does
+pub rest-stops : (w : Tasks) (m : Machine) (d d' : Data) (f f' : ℕ) (l l' : Written) (q : Stopped m d d' f f' l l')
+    (log : List Item) → Logged d log
+    → ((k : Graph) → hands w d q.top (done_in (names_of d) m.done) k f
+    ≡ exec w (under_way q.top.frame) (row_of d q.top m.done k) f)
+    → RestBy w m d f log ≡ Spent (Image d' log) f'
+rest-stops w m d d' f f' l l' q log e r =
+    ap (λ ys. stack_gives w d ys m.done (Image d log) f) q.was
+    ∙ under-push (hands w d) q.below q.top _
+    ∙ ap (under (hands w d) q.below) (r (Image d log) ∙ q.step.same w log e)
+    ∙ under-spent w d q.below (Image d' log) f'
+
 pub rest-spent : (w : Tasks) → ByRows w → (m : Machine) (d d' : Data) (f f' : ℕ) (l l' : Written)
     (q : Stopped m d d' f f' l l') (log : List Item) → Logged d log → RestBy w m d f log ≡ Spent (Image d' log) f'
 rest-spent w r m d d' f f' l l' q log e =
-    ap (λ ys. stack_gives w d ys m.done (Image d log) f) q.was
-    ∙ under-push (hands w d) q.below q.top _
-    ∙ ap (under (hands w d) q.below) (hands-row w r d q.top m.done (Image d log) f ∙ q.step.same w log e)
-    ∙ under-spent w d q.below (Image d' log) f'
+    rest-stops w m d d' f f' l l' q log e (λ k. hands-row w r d q.top m.done k f)

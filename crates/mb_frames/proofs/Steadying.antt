@@ -5,10 +5,10 @@ use Rattle.mb_frames.proofs.Leaving.{holds-all, holds-own, leaves-formed}
 use Rattle.mb_frames.proofs.Owning.{contained-after, kept-own, steps-kept}
 use Rattle.mb_frames.proofs.Parts.{all-second, same-lasts}
 use Rattle.mb_frames.specs.Holding.{FrameIn, answer_held, done_held, frame_held, move_held, outcome_held}
-use Rattle.mb_frames.specs.Ready.{Changed, Holds, IsReadyMachine, Leaves}
+use Rattle.mb_frames.specs.Ready.{Changed, Holds, IsReady, IsReadyMachine, Leaves}
 use Rattle.mb_frames.specs.Standing.{Here, Logged}
 use Rattle.mb_frames.specs.Stepping.{MayCross, Stepped, Written}
-use Rattle.mb_frames.specs.Wholeness.{AreAtHome, AreOwn, AreSound, StepsKept, sort_by}
+use Rattle.mb_frames.specs.Wholeness.{AreAtHome, AreOwn, AreSound, IsFitFrame, StaysFound, StepsKept, sort_by}
 use Rattle.mb_frames.specs.declared.frame.Move.{Move}
 use Rattle.mb_frames.specs.declared.machine.Halt.{Halt}
 use Rattle.mb_frames.specs.declared.machine.Machine.{Machine}
@@ -70,6 +70,9 @@ module _ (d : Data) (m : Machine) (below : List Waiting) (top : Waiting) (h : Is
       (λ u. (all-second (λ (y : Waiting). AreOwn d y.home (frame_held y.frame)) below (top ∷ [])
       (rw (← was) (h.contained u).frames)).0)
 
+  pub top-fit : IsFitFrame d top.frame
+  top-fit = (all-second (λ (y : Waiting). IsFitFrame d y.frame) below (top ∷ []) (rw (← was) h.formed.fit)).0
+
   now-home : (MayCross top.frame → ⊥) → d.joined ≡ false → m.now ≡ top.home
   now-home n u = elim (at-top below top m.now (rw (← was) (h.contained u).homes)) [
     | inl r ↦ sym r
@@ -125,11 +128,11 @@ halt-keeps halt m m' d d' below top was k = λ u under last also.
 -- in a joined world a step may act for any side
 module _ (m m' : Machine) (d d' : Data) (f f' : ℕ) (l l' : Written) (q : Stepped m m' d d' f f' l l')
     (h : IsReadyMachine d m) (side : Side) (y : Move) (p : q.passage ≡ Here side y) (j : d.joined ≡ true)
-    (i : side.0 < d.sides) (k : Changed side d d') (v : Leaves d' side (sort_by d q.top h.formed.sort) y) where
-  pub joined-ready : IsReadyMachine d' m'
-  joined-ready = record {
-    world = k.ready;
-    formed = formed-after m m' d d' f f' l l' q (map Traced (entries_in d)) (a-log d) h.formed h.world.ids k.found
-        (rw p (leaves-formed d' side (sort_by d q.top h.formed.sort) (rw k.found.grew.sides i) y v));
-    contained = λ u. absurd (true≢false (sym j ∙ sym k.found.grew.joined ∙ u));
+    (i : side.0 < d.sides) (r : IsReady d') (k : StaysFound d d') (v : Leaves d' side (sort_by d q.top h.formed.sort) y) where
+  pub noted-ready : IsReadyMachine d' m'
+  noted-ready = record {
+    world = r;
+    formed = formed-after m m' d d' f f' l l' q (map Traced (entries_in d)) (a-log d) h.formed h.world.ids k
+        (rw p (leaves-formed d' side (sort_by d q.top h.formed.sort) (rw k.grew.sides i) y v));
+    contained = λ u. absurd (true≢false (sym j ∙ sym k.grew.joined ∙ u));
   }

@@ -73,7 +73,7 @@ module _ (home : Side) (d : Data) (id new : ObjId) (place : ℕ) (error : ErrorK
   thrown-keeps : (wanted : Sort) → Keeps home wanted [] (Ok (move.Done (o.Throw (v.Object new)))) d later
   thrown-keeps wanted = λ r inside held. record {
     changed = made-changed home d (kind.Fault error) (v.Object id) None r inside fault-made;
-    leaves = record { holds = (fault-held, tt); gives = (wanted, tt, fits-same wanted) };
+    leaves = record { holds = (fault-held, tt); fit = tt; gives = (wanted, tt, fits-same wanted) };
   }
 
 pub error-keeps : (home : Side) (wanted : Sort) (d d' : Data) (id new : ObjId) (place : ℕ) (error : ErrorKind)

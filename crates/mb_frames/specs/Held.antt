@@ -21,7 +21,11 @@ pub data Held : Type 0 where
   HeldCallable : Value → Held
   HeldConstructor : Value → Held
   HeldPrototype : Value → Held
+  -- null, or the object of any side that the walk of setPrototypeOf visits next
+  HeldVisited : Value → Held
   HeldObject : ObjId → Held
+  -- what a function's entering takes: a function of a script, or what revokes a Proxy
+  HeldFunction : ObjId → Held
   -- a collection
   HeldCollection : ObjId → Held
   -- an array and a plain object that rows of the frame's home made
@@ -64,7 +68,9 @@ HeldIn d (HeldValues xs) = All (ValueIn d) xs
 HeldIn d (HeldCallable x) = ValueIn d x
 HeldIn d (HeldConstructor x) = ValueIn d x
 HeldIn d (HeldPrototype x) = ValueIn d x
+HeldIn d (HeldVisited x) = ValueIn d x
 HeldIn d (HeldObject id) = ObjIn d id
+HeldIn d (HeldFunction id) = ObjIn d id
 HeldIn d (HeldCollection id) = ObjIn d id
 HeldIn d (HeldArray id) = ObjIn d id
 HeldIn d (HeldPlain id) = ObjIn d id

@@ -1,10 +1,11 @@
 -- What stands in tasks, in outcomes and in frames, piece by piece, in the order of their parts.
 use Rattle.std.specs.List.{AllByRecursion}
 use Rattle.std.specs.Prelude.{◌++◌, List, None, Option, Some, [], ◌∷◌}
-use Rattle.mb_frames.specs.Held.{AreIn, Held, HeldArray, HeldBegan, HeldCallable, HeldCollection, HeldConstructor, HeldDesc, HeldEntered, HeldFields, HeldFull, HeldKey, HeldKeyIf, HeldKeys, HeldNode, HeldNodeIf, HeldObject, HeldPlace, HeldPlain, HeldPrototype, HeldReal, HeldScope, HeldSign, HeldText, HeldTextIf, HeldValue, HeldValues}
+use Rattle.mb_frames.specs.Held.{AreIn, Held, HeldArray, HeldBegan, HeldCallable, HeldCollection, HeldConstructor, HeldDesc, HeldEntered, HeldFields, HeldFull, HeldFunction, HeldKey, HeldKeyIf, HeldKeys, HeldNode, HeldNodeIf, HeldObject, HeldPlace, HeldPlain, HeldPrototype, HeldReal, HeldScope, HeldSign, HeldText, HeldTextIf, HeldValue, HeldValues, HeldVisited}
 use Rattle.mb_frames.specs.Kinds.{is_array_form, is_call_form, is_declaring_form, is_do_form, is_evaluated, is_expression, is_for_form, is_function_form, is_list_form, is_new_form, is_object_form, is_prop_form, is_seq_form, is_try_form, is_while_form}
 use Rattle.mb_frames.specs.Standing.{Across, Here, Passage}
 use Rattle.mb_world.specs.Data.{Data}
+use Rattle.mb_base.specs.declared.value.ObjId.{ObjId}
 use Rattle.mb_base.specs.declared.value.Value.{Value}
 use Rattle.mb_base.specs.declared.value.Value.TheVariants as v
 use Rattle.mb_frames.specs.declared.task.Method.{Method}
@@ -64,20 +65,22 @@ abbrev pub value_if : Option Value → List Held
 value_if None = []
 value_if (Some x) = HeldValue x ∷ []
 
-abbrev pub method_held : Method → List Held
-method_held method.GetPrototypeOf = []
-method_held (method.SetPrototypeOf given) = HeldPrototype given ∷ []
-method_held method.IsExtensible = []
-method_held method.PreventExtensions = []
-method_held (method.GetOwnProperty key) = HeldKey key ∷ []
-method_held (method.DefineOwnProperty key given) = HeldKey key ∷ HeldDesc given ∷ []
-method_held (method.HasProperty key) = HeldKey key ∷ []
-method_held (method.Get key receiver) = HeldKey key ∷ HeldValue receiver ∷ []
-method_held (method.Set key value receiver) = HeldKey key ∷ HeldValue value ∷ HeldValue receiver ∷ []
-method_held (method.Delete key) = HeldKey key ∷ []
-method_held method.OwnPropertyKeys = []
-method_held (method.Call this arguments) = HeldValue this ∷ HeldValues arguments ∷ []
-method_held (method.Construct arguments target) = HeldValues arguments ∷ HeldConstructor target ∷ []
+-- of a method of that object; only a constructor constructs
+abbrev pub method_held : ObjId → Method → List Held
+method_held object method.GetPrototypeOf = []
+method_held object (method.SetPrototypeOf given) = HeldPrototype given ∷ []
+method_held object method.IsExtensible = []
+method_held object method.PreventExtensions = []
+method_held object (method.GetOwnProperty key) = HeldKey key ∷ []
+method_held object (method.DefineOwnProperty key given) = HeldKey key ∷ HeldDesc given ∷ []
+method_held object (method.HasProperty key) = HeldKey key ∷ []
+method_held object (method.Get key receiver) = HeldKey key ∷ HeldValue receiver ∷ []
+method_held object (method.Set key value receiver) = HeldKey key ∷ HeldValue value ∷ HeldValue receiver ∷ []
+method_held object (method.Delete key) = HeldKey key ∷ []
+method_held object method.OwnPropertyKeys = []
+method_held object (method.Call this arguments) = HeldValue this ∷ HeldValues arguments ∷ []
+method_held object (method.Construct arguments target) =
+    HeldValues arguments ∷ HeldConstructor target ∷ HeldConstructor (v.Object object) ∷ []
 
 abbrev pub request_held : Request → List Held
 request_held (q.GetAt key) = HeldValue key ∷ []
@@ -93,10 +96,10 @@ abbrev pub task_held : Task → List Held
 task_held (task.Evaluate node at) = HeldScope at.scope ∷ HeldValue at.this ∷ HeldNode is_evaluated node.0 ∷ []
 task_held (task.Loop node at) = HeldScope at.scope ∷ HeldValue at.this ∷ HeldNode is_for_form node.0 ∷ []
 task_held (task.Chain object prototype) = HeldObject object ∷ HeldObject prototype ∷ []
-task_held (task.Walk object given next) = HeldObject object ∷ HeldPrototype given ∷ HeldPrototype next ∷ []
-task_held (task.Perform method object viewer enters) = HeldObject object ∷ method_held method
+task_held (task.Walk object given next) = HeldObject object ∷ HeldPrototype given ∷ HeldVisited next ∷ []
+task_held (task.Perform method object viewer enters) = HeldObject object ∷ method_held object method
 task_held (task.Enter function this arguments) =
-    HeldCallable (v.Object function) ∷ HeldValue this ∷ HeldValues arguments ∷ []
+    HeldCallable (v.Object function) ∷ HeldValue this ∷ HeldValues arguments ∷ HeldFunction function ∷ []
 task_held (task.Run place this arguments target) =
     HeldPlace place ∷ HeldValue this ∷ HeldValues arguments ∷ HeldValue target ∷ []
 task_held (task.Access place collection request) =
@@ -248,7 +251,7 @@ abbrev pub call_held : CallFrame → List Held
 call_held c.SetterCalled = []
 call_held (c.ReceiverRead key value receiver) = HeldKey key ∷ HeldValue value ∷ HeldObject receiver ∷ []
 call_held (c.ConstructPrototype function label arguments) =
-    HeldConstructor (v.Object function) ∷ HeldTextIf label ∷ HeldValues arguments ∷ []
+    HeldConstructor (v.Object function) ∷ HeldTextIf label ∷ HeldValues arguments ∷ HeldFunction function ∷ []
 call_held (c.ConstructBody made) = HeldObject made ∷ []
 call_held (c.Statement at node next) = HeldScope at.scope ∷ HeldValue at.this ∷ HeldNode is_function_form node.0 ∷ []
 call_held c.ArrowValue = []
@@ -292,8 +295,9 @@ array_held (y.PopLength value) = HeldValue value ∷ []
 array_held (y.JoinGot object place left separator so_far) = HeldObject object ∷ []
 
 abbrev pub proxy_held : ProxyFrame → List Held
-proxy_held (p.TrapGot side target handler method) = HeldObject target ∷ HeldObject handler ∷ method_held method
-proxy_held (p.Said target method) = HeldObject target ∷ method_held method
+proxy_held (p.TrapGot side target handler method) =
+    HeldObject target ∷ HeldObject handler ∷ method_held target method
+proxy_held (p.Said target method) = HeldObject target ∷ method_held target method
 proxy_held (p.PrototypeExtensible target said) = HeldObject target ∷ HeldPrototype said ∷ []
 proxy_held (p.PrototypeRead said) = HeldPrototype said ∷ []
 proxy_held (p.SetPrototypeExtensible target given) = HeldObject target ∷ HeldPrototype given ∷ []
@@ -322,7 +326,8 @@ collect_held (l.Prototype coll arguments) = HeldValues arguments ∷ []
 
 abbrev pub membrane_held : MembraneFrame → List Held
 membrane_held m.Crossing = []
-membrane_held (m.TrapGot owner target handler method) = HeldObject target ∷ HeldObject handler ∷ method_held method
+membrane_held (m.TrapGot owner target handler method) =
+    HeldObject target ∷ HeldObject handler ∷ method_held target method
 
 abbrev pub given_held : Given → List Held
 given_held given.Nothing = []

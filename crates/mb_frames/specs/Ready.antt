@@ -1,7 +1,7 @@
 -- What a step meets, and what each part of a row keeps: the world is formed, and in one that isn't joined each side
 -- holds only its own.
 use Rattle.std.specs.List.{AllByRecursion}
-use Rattle.std.specs.Prelude.{◌<◌, ◌≡◌, All, Bool, Err, List, None, Ok, Option, Result, Some, false, true, ℕ}
+use Rattle.std.specs.Prelude.{◌<◌, ◌≡◌, ◌≢◌, [], All, Bool, Err, List, None, Ok, Option, Result, Some, false, true, ℕ}
 use Rattle.mb_base.specs.declared.value.ObjId.{ObjId}
 use Rattle.mb_base.specs.declared.value.Side.{Side}
 use Rattle.mb_frames.specs.Grammatical.{IsProgram}
@@ -9,7 +9,7 @@ use Rattle.mb_frames.specs.Held.{Held, HeldIn}
 use Rattle.mb_frames.specs.Holding.{move_held}
 use Rattle.mb_frames.specs.Sorts.{IsOfSort, Sort, fits, frame_sort, task_gives, waits_for}
 use Rattle.mb_frames.specs.Standing.{forms_at}
-use Rattle.mb_frames.specs.Wholeness.{FormedMachine, IsSound, KeepsCell, KeptWorld, MachineContained, StaysFound, in_held}
+use Rattle.mb_frames.specs.Wholeness.{FormedMachine, IsFitBegun, IsFitFrame, IsFitTask, IsSound, KeepsCell, KeptWorld, MachineContained, StaysFound, in_held}
 use Rattle.mb_frames.specs.declared.frame.Move.{Move}
 use Rattle.mb_frames.specs.declared.frame.Move.TheVariants as move
 use Rattle.mb_frames.specs.declared.machine.Halt.{Halt}
@@ -20,10 +20,13 @@ use Rattle.mb_world.specs.Contained.{Contained, IsOwn, Paired, in_cell, in_kind,
 use Rattle.mb_world.specs.Data.{Data, cell_at, is_counted, kind_stand, set_cell}
 use Rattle.mb_world.specs.Formed.{FormedBy, FormedCell, HasItsKind, InRange, IsNullOrObject, is_of_membrane, kind_values}
 use Rattle.mb_world.specs.Graph as graph
+use Rattle.mb_world.specs.Intrinsics.{intrinsic}
 use Rattle.mb_world.specs.Ids.{CellIn, HasItsIds, KindIn, Maybe, TextIn, ValueIn}
 use Rattle.mb_world.specs.declared.cell.Cell.{Cell}
 use Rattle.mb_world.specs.declared.cell.CellKind.{CellKind}
 use Rattle.mb_world.specs.declared.cell.CellKind.TheVariants.{Array, BuiltIn}
+use Rattle.mb_world.specs.declared.rule.RuleKind.{RuleKind}
+use Rattle.mb_world.specs.declared.rule.RuleKind.TheVariants.{Substitute}
 
 -- ---- worlds
 
@@ -34,6 +37,11 @@ AnyRules rules = Unit {0}
 abbrev pub AnyEntry : graph.Entry → Type 0
 AnyEntry entry = Unit {0}
 
+-- a rule's constant is in range, and no object
+abbrev pub HasItsConstant : RuleKind → Type 0
+HasItsConstant (Substitute key value) = (in_value value ≡ []) × InRange value
+HasItsConstant kind = Unit {0}
+
 -- a world between the steps
 pub record IsReady (d : Data) : Type 0 where
   pub formed : FormedBy IsProgram AnyRules AnyEntry d
@@ -41,6 +49,10 @@ pub record IsReady (d : Data) : Type 0 where
   -- in a joined world all sides share one built-in of a place
   pub one_built_in : d.joined ≡ true → (i k : ObjId) (place : ℕ) (c e : Cell) → cell_at d i ≡ Some c →
       cell_at d k ≡ Some e → c.kind ≡ BuiltIn place → e.kind ≡ BuiltIn place → i ≡ k
+  -- a built-in's place is one of the table
+  pub of_table : (id : ObjId) (place : ℕ) (c : Cell) → cell_at d id ≡ Some c → c.kind ≡ BuiltIn place →
+      intrinsic place ≢ None
+  pub constants : All (λ r. HasItsConstant r.kind) d.rules
   pub contained : d.joined ≡ false → Contained d
   pub paired : d.joined ≡ false → Paired d
 
@@ -75,9 +87,18 @@ Gives d home wanted (move.Entered y t) =
     (waits_for y (task_gives (forms_at d home) t) ≡ true)
     × (fits (frame_sort (forms_at d home) y (task_gives (forms_at d home) t)) wanted ≡ true)
 
--- what a part leaves: it may be held, and gives what is wanted
+-- what starts then is as its task takes it for granted
+abbrev pub IsFitMove : Data → Move → Type 0
+IsFitMove d (move.Done y) = Unit {0}
+IsFitMove d (move.Wait y t) = IsFitFrame d y × IsFitTask d t
+IsFitMove d (move.Next t) = IsFitTask d t
+IsFitMove d (move.Anew t) = IsFitBegun d t
+IsFitMove d (move.Entered y t) = IsFitFrame d y × IsFitBegun d t
+
+-- what a part leaves: it may be held, is fit, and gives what is wanted
 pub record Leaves (d : Data) (home : Side) (wanted : Sort) (m : Move) : Type 0 where
   pub holds : Holds d home (move_held m)
+  pub fit : IsFitMove d m
   pub gives : Gives d home wanted m
 
 abbrev pub LeavesBy : Data → Side → Sort → Result Move Halt → Type 0

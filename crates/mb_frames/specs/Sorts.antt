@@ -4,6 +4,8 @@ use Rattle.mb_base.specs.declared.value.Side.{Side}
 use Rattle.mb_world.specs.Form.{BlockForm, BreakForm, ConstForm, ContinueForm, DeclForm, DoWhileForm, EmptyForm, ExprStmtForm, ForForm, Form, FunctionDeclForm, IfForm, LetForm, ReturnForm, ScriptForm, ThrowForm, TryForm, WhileForm}
 use Rattle.mb_world.specs.Formed.{IsNullOrObject}
 use Rattle.mb_world.specs.Intrinsics.{Intrinsic, MapPrototypeClear, MapPrototypeForEach, MapPrototypeGet, MapPrototypeSize, SetPrototypeClear, SetPrototypeForEach, SetPrototypeSize, WeakMapPrototypeGet, intrinsic}
+use Rattle.mb_world.specs.Objects.{intrinsic_is}
+use Rattle.mb_world.specs.Standard.{constructs}
 use Rattle.mb_base.specs.declared.value.Value.{Value}
 use Rattle.mb_base.specs.declared.value.Value.TheVariants as v
 use Rattle.mb_frames.specs.declared.task.Method.{Method}
@@ -222,6 +224,12 @@ form_gives (Some ContinueForm) = ACompletion
 form_gives (Some (TryForm block caught handler ending)) = ACompletion
 form_gives form = AValue
 
+-- a built-in that constructs gives an object, where there is a new target (ECMA-262 10.3.2)
+abbrev pub run_gives : Value → Bool → Sort
+run_gives v.Undefined constructor = AValue
+run_gives target true = AnObject
+run_gives target false = AValue
+
 -- fs are the nodes of the script at the task's home
 abbrev pub task_gives : List Form → Task → Sort
 task_gives fs (task.Evaluate node at) = form_gives (slice_get fs node.0)
@@ -230,7 +238,7 @@ task_gives fs (task.Chain object prototype) = AValue
 task_gives fs (task.Walk object given next) = AFlag
 task_gives fs (task.Perform method object viewer enters) = method_gives method
 task_gives fs (task.Enter function this arguments) = AValue
-task_gives fs (task.Run place this arguments target) = AValue
+task_gives fs (task.Run place this arguments target) = run_gives target (intrinsic_is constructs (intrinsic place))
 task_gives fs (task.Access place collection request) = request_gives request
 task_gives fs (task.Visit place collection function this position) = AValue
 
@@ -258,6 +266,20 @@ call_gives (c.ListElement list left done after) = list_gives after
 call_gives (c.FieldThere object field desc after) = desc_gives after
 call_gives (c.FieldGot object field desc after) = desc_gives after
 call_gives frame = AValue
+
+-- those that wait for a new target's prototype construct
+abbrev pub reflect_gives : ReflectFrame → Sort
+reflect_gives r.ObjectPrototype = AnObject
+reflect_gives (r.ErrorPrototype kind message) = AnObject
+reflect_gives frame = AValue
+
+abbrev pub array_gives : ArrayFrame → Sort
+array_gives (y.Prototype arguments) = AnObject
+array_gives frame = AValue
+
+abbrev pub collect_gives : CollectFrame → Sort
+collect_gives (l.Prototype coll arguments) = AnObject
+collect_gives frame = AValue
 
 abbrev pub proxy_gives : ProxyFrame → Sort
 proxy_gives (p.TrapGot side target handler method) = method_gives method
@@ -316,10 +338,10 @@ frame_sort fs (x.Anew y) sort = task_gives fs y
 frame_sort fs (x.Expr y) sort = AValue
 frame_sort fs (x.Stmt y) sort = ACompletion
 frame_sort fs (x.Call y) sort = call_gives y
-frame_sort fs (x.Reflect y) sort = AValue
-frame_sort fs (x.Array y) sort = AValue
+frame_sort fs (x.Reflect y) sort = reflect_gives y
+frame_sort fs (x.Array y) sort = array_gives y
 frame_sort fs (x.Proxy y) sort = proxy_gives y
-frame_sort fs (x.Collect y) sort = AValue
+frame_sort fs (x.Collect y) sort = collect_gives y
 frame_sort fs (x.Membrane m.Crossing) sort = sort
 frame_sort fs (x.Membrane (m.TrapGot owner target handler method)) sort = method_gives method
 frame_sort fs (x.Entry y) sort = op_gives y.op

@@ -1,9 +1,14 @@
 -- What holds of a machine with its world between the steps, and what each step keeps.
-use Rattle.std.specs.Prelude.{Err, Ok, Result}
+use Rattle.mb_frames.specs.Real.{IsReal}
+use Rattle.mb_frames.specs.declared.frame.Frame.{Frame}
+use Rattle.mb_frames.specs.declared.frame.Frame.TheVariants as x
+use Rattle.mb_frames.specs.declared.task.Task.{Task}
+use Rattle.mb_frames.specs.declared.task.Task.TheVariants as task
+use Rattle.std.specs.Prelude.{Bool, Err, Ok, Result, false, true}
 use Rattle.mb_base.specs.declared.value.ScopeId.{ScopeId}
 use Rattle.mb_frames.specs.Stepping.{Grew}
 use Rattle.mb_world.specs.Ids.{ObjIn, ScopeIn, ValueIn}
-use Rattle.mb_frames.specs.Held.{HeldKeyIf}
+use Rattle.mb_frames.specs.Held.{HeldFunction, HeldKeyIf, HeldVisited}
 use Rattle.std.specs.List.{AllByRecursion, flat_map}
 use Rattle.std.specs.Prelude.{◌++◌, ◌<◌, All, IsSomeAnd, List, None, Option, Some, [], false, length, map, slice_get, true, ℕ, ◌∷◌, ◌≡◌, ◌≢◌, ◌≤◌, ◌⊎◌}
 use Rattle.mb_base.specs.declared.value.ObjId.{ObjId}
@@ -38,6 +43,7 @@ use Rattle.mb_frames.specs.declared.machine.Halt.TheVariants.{Spent as SpentHalt
 use Rattle.mb_world.specs.declared.cell.Cell.{Cell}
 use Rattle.mb_world.specs.declared.cell.CellKind.{CellKind}
 use Rattle.mb_world.specs.declared.cell.CellKind.TheVariants as kind
+use Rattle.mb_ordinary.specs.Objects.{is_ordinary}
 use Rattle.mb_world.specs.Graph as graph
 use Rattle.mb_view.specs.Views as views
 
@@ -77,13 +83,24 @@ IsProxyAt d home id = (behind shadow : ObjId) × IsMembrane d id home behind sha
 abbrev pub IsOfKind : Data → Side → CellKind → ObjId → Type 0
 IsOfKind d home wanted id = IsSomeAnd (cell_at d id) (λ c. (c.home ≡ home) × (c.kind ≡ wanted))
 
+-- what entering a function takes: a function of a script, or what revokes a Proxy (ECMA-262 10.2, 28.2.2.1)
+abbrev pub is_function_kind : CellKind → Bool
+is_function_kind (kind.Function code) = true
+is_function_kind (kind.Revoker proxy) = true
+is_function_kind other = false
+
+abbrev pub IsFunctionAt : Data → ObjId → Type 0
+IsFunctionAt d id = IsSomeAnd (cell_at d id) (λ c. is_function_kind c.kind ≡ true)
+
 abbrev pub IsSound : Data → Side → Held → Type 0
 IsSound d home (HeldValue y) = InRange y
 IsSound d home (HeldValues ys) = All InRange ys
 IsSound d home (HeldCallable y) = IsCallable d y
 IsSound d home (HeldConstructor y) = IsConstructor d y
 IsSound d home (HeldPrototype y) = IsNullOrObject y
+IsSound d home (HeldVisited y) = IsNullOrObject y
 IsSound d home (HeldObject id) = Unit {0}
+IsSound d home (HeldFunction id) = IsFunctionAt d id
 IsSound d home (HeldCollection id) = IsCollectionAt d id
 IsSound d home (HeldArray id) = IsOfKind d home kind.Array id
 IsSound d home (HeldPlain id) = IsOfKind d home kind.Plain id
@@ -110,12 +127,13 @@ AreSound d home held = AllByRecursion (IsSound d home) held
 abbrev pub IsStackSound : Data → List Waiting → Type 0
 IsStackSound d stack = AllByRecursion (λ y. AreSound d y.home (frame_held y.frame)) stack
 
--- what was found stays found: what is called or constructs, collections, arrays and plain objects, whose a scope is,
--- the entries, and which objects have a membrane proxy
+-- what was found stays found: what is called or constructs, functions, collections, arrays and plain objects, whose a
+-- scope is, the entries, and which objects have a membrane proxy
 pub record StaysFound (d d' : Data) : Type 0 where
   pub grew : Grew d d'
   pub callable : (y : Value) → ValueIn d y → IsCallable d y → IsCallable d' y
   pub constructor : (y : Value) → ValueIn d y → IsConstructor d y → IsConstructor d' y
+  pub functions : (id : ObjId) → IsFunctionAt d id → IsFunctionAt d' id
   pub collection : (id : ObjId) → ObjIn d id → IsCollectionAt d id → IsCollectionAt d' id
   pub arrays : (id : ObjId) (home : Side) → IsOfKind d home kind.Array id → IsOfKind d' home kind.Array id
   pub plain : (id : ObjId) (home : Side) → IsOfKind d home kind.Plain id → IsOfKind d' home kind.Plain id
@@ -123,12 +141,38 @@ pub record StaysFound (d d' : Data) : Type 0 where
   pub entries : length d.entries ≤ length d'.entries
   pub proxies : (id : ObjId) (home : Side) → IsProxyAt d home id → IsProxyAt d' home id
 
+-- ---- what starts on top
+
+-- the object whose prototype the walk sets is no Proxy, and extensible still (ECMA-262 10.1.2.1, steps 4 and 5)
+abbrev pub MayWalk : Cell → Type 0
+MayWalk c = (is_ordinary c.kind ≡ true) × (c.extensible ≡ true)
+
+-- what a task takes for granted that is to begin; what a walk visits names no shadow
+abbrev pub IsFitTask : Data → Task → Type 0
+IsFitTask d (task.Walk object given next) = IsSomeAnd (cell_at d object) MayWalk × IsReal d next
+IsFitTask d t = Unit {0}
+
+-- one that has begun makes no entry
+abbrev pub IsFitBegun : Data → Task → Type 0
+IsFitBegun d (task.Perform method object viewer enters) = enters ≡ false
+IsFitBegun d t = IsFitTask d t
+
+abbrev pub IsFitFrame : Data → Frame → Type 0
+IsFitFrame d (x.Begin t) = IsFitTask d t
+IsFitFrame d (x.Begun t) = IsFitBegun d t
+IsFitFrame d (x.Anew t) = IsFitBegun d t
+IsFitFrame d y = Unit {0}
+
+abbrev pub AreFit : Data → List Waiting → Type 0
+AreFit d stack = AllByRecursion (λ y. IsFitFrame d y.frame) stack
+
 -- A machine is formed with its world. The sort is that of the outcome, which is there or is to come.
 pub record FormedMachine (d : Data) (m : Machine) : Type 0 where
   pub ids : MachineIn d m
   pub homes : AllByRecursion (λ y. y.home.0 < d.sides) m.stack.items
   pub now : m.now.0 < d.sides
   pub frames : IsStackSound d m.stack.items
+  pub fit : AreFit d m.stack.items
   pub done : AreSound d m.now (done_held m.done)
   pub outcome : HasItsOutcome m.stack.items m.done
   pub sort : Sort
@@ -154,6 +198,7 @@ pub record GoesOnFormed (d : Data) (wanted : Sort) (m : Passage) : Type 0 where
   pub homes : AllByRecursion (λ y. y.home.0 < d.sides) (left_by m)
   pub now : (home_of m).0 < d.sides
   pub frames : IsStackSound d (left_by m)
+  pub fit : AreFit d (left_by m)
   pub done : AreSound d (home_of m) (done_held (done_by (move_of m)))
   pub given : Sort
   pub of_sort : Maybe (IsOfSort given) (done_by (move_of m))
@@ -183,7 +228,9 @@ in_held (HeldValues ys) = flat_map in_value ys
 in_held (HeldCallable y) = in_value y
 in_held (HeldConstructor y) = in_value y
 in_held (HeldPrototype y) = in_value y
+in_held (HeldVisited y) = []
 in_held (HeldObject id) = id ∷ []
+in_held (HeldFunction id) = id ∷ []
 in_held (HeldCollection id) = id ∷ []
 in_held (HeldArray id) = id ∷ []
 in_held (HeldPlain id) = id ∷ []

@@ -44,7 +44,7 @@ ghost use Rattle.mb_frames.specs.Making.{HasPrototypes};
 ghost use Rattle.mb_frames.specs.Running.{CanRun};
 ghost use Rattle.mb_frames.specs.Standing.{Tasks, ByRows, Logged, Passage, Here, left_by, hands, row_of, under_way, stack_gives, RestBy, forms_at, frame_row, entry_by};
 ghost use Rattle.mb_frames.specs.Sorts.{Sort, IsOfSort, fits, frame_sort, task_gives, waits_for};
-ghost use Rattle.mb_frames.specs.Wholeness.{AreOwn, AreSound, FormedMachine, GoesOnFormed, IsOwnBy, IsStackSound, KeepsCell, KeptWorld, MachineContained, StandsAt, StaysFound, StaysOwn, StepsKept, sort_by};
+ghost use Rattle.mb_frames.specs.Wholeness.{AreOwn, AreSound, FormedMachine, GoesOnFormed, IsFitBegun, IsFitFrame, IsFitTask, IsOwnBy, IsStackSound, KeepsCell, KeptWorld, MachineContained, StandsAt, StaysFound, StaysOwn, StepsKept, sort_by};
 ghost use Rattle.mb_frames.specs.Stepping.{Written, Stepped, Stopped, Sure, Step, PutsNone, charged_by, IsWait, weight, HasItsOutcome};
 
 /// The meaning does each task's row, and so does what starts anew.
@@ -67,13 +67,19 @@ pub fn a_step_leaves_the_rest()
         (q : Stepped m m' d d' f f' l l') (log : List Item) → Logged d log → Logged d' (log ++ q.step.added) }
 {}
 
-/// So it does whatever tasks do, if the top frame gives what its row does.
+/// So it does whatever tasks do, if the top frame gives what its row does; and so the rest is spent where a step can't
+/// pay.
 pub fn a_step_needs_only_its_own_row()
-    ensures { (w : Tasks) (m m' : Machine) (d d' : Data) (f f' : ℕ) (l l' : Written) →
+    ensures rest { (w : Tasks) (m m' : Machine) (d d' : Data) (f f' : ℕ) (l l' : Written) →
         (q : Stepped m m' d d' f f' l l') (log : List Item) → Logged d log → HasItsIds d →
         ((g : Graph) → hands w d q.top (done_in (names_of d) m.done) g f
         ≡ exec w (under_way q.top.frame) (row_of d q.top m.done g) f) →
         MachineIn d m → RestBy w m' d' f' (log ++ q.step.added) ≡ RestBy w m d f log }
+    ensures spent { (w : Tasks) (m : Machine) (d d' : Data) (f f' : ℕ) (l l' : Written) →
+        (q : Stopped m d d' f f' l l') (log : List Item) → Logged d log →
+        ((g : Graph) → hands w d q.top (done_in (names_of d) m.done) g f
+        ≡ exec w (under_way q.top.frame) (row_of d q.top m.done g) f) →
+        RestBy w m d f log ≡ Spent (Image d' log) f' }
 {}
 
 /// Where a step can't pay, what the machine still gives is spent, with the world that the step leaves, the units that
@@ -115,19 +121,19 @@ pub fn what_goes_on_is_formed()
         AreSound d home (outcome_held y) → IsOfSort given y → fits given wanted ≡ true →
         GoesOnFormed d wanted (Here home (move.Done y)) }
     ensures goes_on { (d : Data) (home : Side) (wanted : Sort) (t : Task) → home.0 < d.sides →
-        AreSound d home (task_held t) → fits (task_gives (forms_at d home) t) wanted ≡ true →
+        AreSound d home (task_held t) → IsFitTask d t → fits (task_gives (forms_at d home) t) wanted ≡ true →
         GoesOnFormed d wanted (Here home (move.Next t)) }
     ensures anew { (d : Data) (home : Side) (wanted : Sort) (t : Task) → home.0 < d.sides →
-        AreSound d home (task_held t) → fits (task_gives (forms_at d home) t) wanted ≡ true →
+        AreSound d home (task_held t) → IsFitBegun d t → fits (task_gives (forms_at d home) t) wanted ≡ true →
         GoesOnFormed d wanted (Here home (move.Anew t)) }
     ensures waits { (d : Data) (home : Side) (wanted : Sort) (y : Frame) (t : Task) → home.0 < d.sides →
         AreSound d home (frame_held y) → AreSound d home (task_held t) →
-        waits_for y (task_gives (forms_at d home) t) ≡ true →
+        IsFitFrame d y → IsFitTask d t → waits_for y (task_gives (forms_at d home) t) ≡ true →
         fits (frame_sort (forms_at d home) y (task_gives (forms_at d home) t)) wanted ≡ true →
         GoesOnFormed d wanted (Here home (move.Wait y t)) }
     ensures entered { (d : Data) (home : Side) (wanted : Sort) (y : Frame) (t : Task) → home.0 < d.sides →
         AreSound d home (frame_held y) → AreSound d home (task_held t) →
-        waits_for y (task_gives (forms_at d home) t) ≡ true →
+        IsFitFrame d y → IsFitBegun d t → waits_for y (task_gives (forms_at d home) t) ≡ true →
         fits (frame_sort (forms_at d home) y (task_gives (forms_at d home) t)) wanted ≡ true →
         GoesOnFormed d wanted (Here home (move.Entered y t)) }
 {}

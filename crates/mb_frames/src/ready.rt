@@ -1,5 +1,5 @@
 // Worlds and machines between the steps: laws over the definitions, so the bodies are empty.
-ghost use Rattle.std.specs.Prelude.{All, Option, Some, slice_get, ◌≡◌, ◌<◌, ◌++◌, ◌∷◌, [], List, ℕ, Bool, true, false, is_some, length, Result, Ok, Err};
+ghost use Rattle.std.specs.Prelude.{All, Option, Some, slice_get, ◌≡◌, ◌<◌, ◌≤◌, ◌++◌, ◌∷◌, [], List, ℕ, Bool, true, false, is_some, length, Result, Ok, Err};
 ghost use Rattle.mb_base.specs.declared.value.Key.{Key};
 ghost use Rattle.mb_base.specs.declared.value.NodeId.{NodeId};
 ghost use Rattle.mb_base.specs.declared.value.ObjId.{ObjId};
@@ -7,22 +7,28 @@ ghost use Rattle.mb_base.specs.declared.value.ScopeId.{ScopeId};
 ghost use Rattle.mb_base.specs.declared.value.Side.{Side};
 ghost use Rattle.mb_base.specs.declared.value.StrId.{StrId};
 ghost use Rattle.mb_base.specs.declared.value.Value.{Value};
+ghost use Rattle.mb_base.specs.declared.value.Value.TheVariants as v;
 ghost use Rattle.mb_desc.specs.declared.descriptor.Full.{Full};
 ghost use Rattle.mb_text.specs.Texts.{with_text};
 ghost use Rattle.mb_world.specs.Contained.{IsOwn, in_cell, in_job, in_kind, in_scope, in_value, is_shadow};
-ghost use Rattle.mb_world.specs.Data.{Data, built_in_of, cell_at, is_counted, kind_stand, made, new_cell, property_at, queue_of, scope_at, set_cell, set_scope, with_queue, with_scope, with_symbol, with_texts};
-ghost use Rattle.mb_world.specs.Formed.{FormedCell, FormedScope, IsCallable, job_values};
-ghost use Rattle.mb_world.specs.Ids.{JobIn, KindIn, Maybe, ScopeOf, TextIn, ValueIn, CellIn};
+ghost use Rattle.mb_world.specs.Data.{Data, built_in_of, cell_at, is_counted, kind_stand, made, new_cell, property_at, queue_of, scope_at, set_cell, set_scope, with_entry, with_queue, with_scope, with_symbol, with_texts};
+ghost use Rattle.mb_world.specs.Formed.{FormedCell, FormedScope, IsCallable, as_standard, job_values};
+ghost use Rattle.mb_world.specs.Image.{names_of, thing_in};
+ghost use Rattle.mb_world.specs.Standard.{standard_at};
+ghost use Rattle.mb_world.specs.declared.entry.Entry.{Entry};
+ghost use Rattle.mb_world.specs.Ids.{EntryIn, JobIn, KindIn, Maybe, ScopeOf, TextIn, ValueIn, CellIn};
 ghost use Rattle.mb_world.specs.declared.cell.Cell.{Cell};
 ghost use Rattle.mb_world.specs.declared.cell.CellKind.{CellKind};
-ghost use Rattle.mb_world.specs.declared.cell.CellKind.TheVariants.{Function};
+ghost use Rattle.mb_world.specs.declared.cell.CellKind.TheVariants.{BuiltIn, Function};
 ghost use Rattle.mb_world.specs.declared.cell.Code.{Code};
 ghost use Rattle.mb_world.specs.declared.cell.ErrorKind.{ErrorKind};
+ghost use Rattle.mb_world.specs.declared.rule.Rule.{Rule};
+ghost use Rattle.mb_world.specs.declared.rule.RuleKind.TheVariants.{Substitute};
 ghost use Rattle.mb_world.specs.declared.scope.Job.{Job};
 ghost use Rattle.mb_world.specs.declared.scope.Scope.{Scope};
 ghost use Rattle.mb_frames.specs.Failing.{HasErrorPrototype, HasItsBuiltIns};
 ghost use Rattle.mb_frames.specs.Found.{HoldsBuiltIn, HoldsCell, HoldsCode, HoldsJob, HoldsScope, IsHeldAs};
-ghost use Rattle.mb_frames.specs.Held.{AreIn, Held, HeldFull, HeldObject, HeldValue};
+ghost use Rattle.mb_frames.specs.Held.{AreIn, Held, HeldCallable, HeldFull, HeldFunction, HeldObject, HeldValue};
 ghost use Rattle.mb_frames.specs.Holding.{done_held, frame_held, move_held};
 ghost use Rattle.mb_frames.specs.Ready.{Changed, Gives, Holds, IsMade, IsReady, IsReadyMachine, IsWritten, Leaves, MayHold};
 ghost use Rattle.mb_frames.specs.Kinds.{is_expression};
@@ -30,7 +36,7 @@ ghost use Rattle.mb_frames.specs.Real.{AreApart, HasRealNames, IsReal};
 ghost use Rattle.mb_frames.specs.Sorts.{ACompletion, AValue, IsOfSort, Sort, fits, frame_sort, waits_for};
 ghost use Rattle.mb_frames.specs.Standing.{Here, forms_at};
 ghost use Rattle.mb_frames.specs.Stepping.{IsWait, MayCross, Stepped, Stopped, Written};
-ghost use Rattle.mb_frames.specs.Wholeness.{AreOwn, GoesOnFormed, KeepsCell, StepsKept, sort_by};
+ghost use Rattle.mb_frames.specs.Wholeness.{AreOwn, GoesOnFormed, IsFitFrame, KeepsCell, StaysFound, StepsKept, sort_by};
 ghost use Rattle.mb_frames.specs.declared.frame.Frame.{Frame};
 ghost use Rattle.mb_frames.specs.declared.frame.Move.{Move};
 ghost use Rattle.mb_frames.specs.declared.frame.Move.TheVariants as move;
@@ -75,12 +81,14 @@ pub fn what_is_held_stays_held()
 {}
 
 /// A frame on top of a ready machine may hold what it holds, and so may it hold the outcome that is handed to it, but
-/// for a frame that crosses.
+/// for a frame that crosses. What starts there is fit.
 pub fn what_a_ready_machine_holds()
     ensures frame { (d : Data) (m : Machine) (below : List Waiting) (top : Waiting) → IsReadyMachine d m →
         m.stack.items ≡ below ++ (top ∷ []) → Holds d top.home (frame_held top.frame) }
     ensures done { (d : Data) (m : Machine) (below : List Waiting) (top : Waiting) → IsReadyMachine d m →
         m.stack.items ≡ below ++ (top ∷ []) → (MayCross top.frame → ⊥) → Holds d top.home (done_held m.done) }
+    ensures fit { (d : Data) (m : Machine) (below : List Waiting) (top : Waiting) → IsReadyMachine d m →
+        m.stack.items ≡ below ++ (top ∷ []) → IsFitFrame d top.frame }
     ensures home { (d : Data) (m : Machine) (below : List Waiting) (top : Waiting) → IsReadyMachine d m →
         m.stack.items ≡ below ++ (top ∷ []) → top.home.0 < d.sides }
 {}
@@ -95,7 +103,8 @@ pub fn what_a_part_leaves()
 {}
 
 /// A step at the home of the top frame, or in a joined world at any, leaves a ready machine, and keeps all that it is
-/// to keep in a world that isn't joined, where its part of the row keeps the world and leaves what is wanted.
+/// to keep in a world that isn't joined, where its part of the row keeps the world and leaves what is wanted. So does
+/// one that notes an entry in a joined world.
 pub fn a_step_leaves_a_ready_machine()
     ensures machine { (m m' : Machine) (d d' : Data) (f f' : ℕ) (l l' : Written) → (q : Stepped m m' d d' f f' l l') →
         (h : IsReadyMachine d m) → (y : Move) → q.passage ≡ Here q.top.home y → Changed q.top.home d d' →
@@ -104,11 +113,23 @@ pub fn a_step_leaves_a_ready_machine()
         (h : IsReadyMachine d m) → (side : Side) (y : Move) → q.passage ≡ Here side y → d.joined ≡ true →
         side.0 < d.sides → Changed side d d' → Leaves d' side (sort_by d q.top h.formed.sort) y →
         IsReadyMachine d' m' }
+    ensures noted { (m m' : Machine) (d d' : Data) (f f' : ℕ) (l l' : Written) → (q : Stepped m m' d d' f f' l l') →
+        (h : IsReadyMachine d m) → (side : Side) (y : Move) → q.passage ≡ Here side y → d.joined ≡ true →
+        side.0 < d.sides → IsReady d' → StaysFound d d' → Leaves d' side (sort_by d q.top h.formed.sort) y →
+        IsReadyMachine d' m' }
     ensures kept { (m m' : Machine) (d d' : Data) (f f' : ℕ) (l l' : Written) → (q : Stepped m m' d d' f f' l l') →
         (h : IsReadyMachine d m) → (y : Move) → q.passage ≡ Here q.top.home y → Changed q.top.home d d' →
         Leaves d' q.top.home (sort_by d q.top h.formed.sort) y → StepsKept (Ok tt) m m' d d' }
     ensures halted { (halt : Halt) (m m' : Machine) (d d' : Data) (below : List Waiting) (top : Waiting) →
         m.stack.items ≡ below ++ (top ∷ []) → Changed top.home d d' → StepsKept (Err halt) m m' d d' }
+{}
+
+/// In a joined world an entry whose ids are there, of a side that takes part, which began when no more entries were
+/// complete, leaves the world ready; what was found stays found.
+pub fn an_entry_leaves_a_world_ready()
+    ensures ready { (d : Data) (e : Entry) → IsReady d → d.joined ≡ true → EntryIn d e → e.side.0 < d.sides →
+        e.began ≤ length d.entries → IsReady (with_entry d e) }
+    ensures found { (d : Data) (e : Entry) → IsReady d → StaysFound d (with_entry d e) }
 {}
 
 /// In a ready world a side that takes part has the built-ins, and so the prototypes of errors.
@@ -126,6 +147,7 @@ pub fn what_is_made_may_be_held()
 {}
 
 /// A home may hold what stands in its part of a ready world, as it finds it there; in a joined world each part is its.
+/// What may be entered may be called. A built-in is as the table has it, and so is fixed.
 pub fn what_a_ready_world_holds()
     ensures object { (home : Side) (d : Data) (id : ObjId) (c : Cell) → cell_at d id ≡ Some c →
         (d.joined ≡ false → c.home ≡ home) → is_shadow c.kind ≡ false → IsHeldAs d home id c }
@@ -140,6 +162,14 @@ pub fn what_a_ready_world_holds()
     ensures scope { (home : Side) (d : Data) (id : ScopeId) (s : Scope) → IsReady d → scope_at d id ≡ Some s →
         (d.joined ≡ false → s.home ≡ home) → HoldsScope d home s }
     ensures jobs { (home : Side) (d : Data) → IsReady d → home.0 < 8 → All (HoldsJob d home) (queue_of d home) }
+    ensures function { (home : Side) (d : Data) (id : ObjId) → MayHold d home (HeldFunction id) →
+        MayHold d home (HeldCallable (v.Object id)) }
+    ensures standard { (d : Data) (id : ObjId) (c : Cell) (place : ℕ) → IsReady d → cell_at d id ≡ Some c →
+        c.kind ≡ BuiltIn place → Some (as_standard (thing_in (names_of d) c)) ≡ standard_at place }
+    ensures fixed { (d : Data) (id : ObjId) (c : Cell) (place : ℕ) → IsReady d → cell_at d id ≡ Some c →
+        c.kind ≡ BuiltIn place → c.extensible ≡ false }
+    ensures constant { (home : Side) (d : Data) (place : ℕ) (r : Rule) (key : StrId) (value : Value) → IsReady d →
+        slice_get d.rules place ≡ Some r → r.kind ≡ Substitute key value → MayHold d home (HeldValue value) }
     ensures built_in { (home : Side) (d : Data) (place : ℕ) (id : ObjId) →
         built_in_of d.joined d.cells home place ≡ Some id → HoldsBuiltIn d home place id }
 {}

@@ -32,10 +32,10 @@ use Rattle.mb_growth.proofs.Answered.{own-passes, end-passes, object-entries-pas
 
 -- ---- its properties are fixed, and none can be written
 
-abbrev IsStill : Full Val → Type 0
+abbrev pub IsStill : Full Val → Type 0
 IsStill f = (is_configurable f ≡ false) × (is_writable f ≡ false)
 
-abbrev AllStill : List Property → Type 0
+abbrev pub AllStill : List Property → Type 0
 AllStill [] = Unit {0}
 AllStill (p ∷ ps) = IsStill p.full × AllStill ps
 
@@ -67,14 +67,14 @@ still-members : (is : List Intrinsic) → AllStill (map member is)
 still-members [] = tt
 still-members (i ∷ is) = (still-member i, still-members is)
 
-still-all : (i : Intrinsic) → AllStill (properties_of i)
+pub still-all : (i : Intrinsic) → AllStill (properties_of i)
 still-all i =
     still-append (function_properties i (function_length i) ++ constructor_property (constructor_of i) ++ error_properties i) (map member (members_of i))
     (still-append (function_properties i (function_length i) ++ constructor_property (constructor_of i)) (error_properties i)
     (still-append (function_properties i (function_length i)) (constructor_property (constructor_of i)) (still-function i (function_length i))
     (still-constructor (constructor_of i))) (still-error i)) (still-members (members_of i))
 
-still-found : (k : PropertyKey) (ps : List Property) (f : Full Val) → AllStill ps → find_property k ps ≡ Some f → IsStill f
+pub still-found : (k : PropertyKey) (ps : List Property) (f : Full Val) → AllStill ps → find_property k ps ≡ Some f → IsStill f
 still-found k [] f h at = absurd (let bad : None ≡ Some f = at in cc)
 still-found k (p ∷ ps) f h at = by (same_key p.key k) refl (still-found k ps f h.1)
   where

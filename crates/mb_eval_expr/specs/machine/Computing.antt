@@ -6,7 +6,6 @@ use Rattle.std.specs.Prelude.{Bool, Err, None, Ok, Option, Result, Some, false, 
 use Rattle.mb_eval_expr.specs.declared.computing.Computed.{Computed}
 use Rattle.mb_eval_expr.specs.declared.computing.Computed.TheVariants as c
 use Rattle.mb_frames.specs.Passing.{Passes}
-use Rattle.mb_frames.specs.Standing.{Logged, Tasks}
 use Rattle.mb_frames.specs.Stepping.{Unpaid, Written}
 use Rattle.mb_frames.specs.declared.machine.Halt.{Halt}
 use Rattle.mb_frames.specs.declared.machine.Halt.TheVariants.{Spent as SpentHalt, NoMemory}

@@ -35,7 +35,7 @@ NamedAs d d' None p = (log : List Item) → text_limit < length (p (Image d log)
 abbrev pub MakesKeyed : Side → Result (Option ObjId) Halt → Data → Data → Does Val → Type 0
 MakesKeyed home (Ok (Some id)) d d' p = WentOn Val d d' 0 0 p (object_in (names_of d') id)
 MakesKeyed home (Ok None) d d' p =
-    TextsGrew d d'
-    × ((k : Val → Graph → Row) (log : List Item) → p k (Image d log) ≡ range_error home.0 k (Image d log))
+    TextsGrew d d' × ((k : Val → Graph → Row) (log : List Item) → p k (Image d log) ≡ range_error home.0 k
+    (Image d log))
 MakesKeyed home (Err SpentHalt) d d' p = ⊥
 MakesKeyed home (Err NoMemory) d d' p = Unit {0}

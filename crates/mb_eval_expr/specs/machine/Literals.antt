@@ -4,8 +4,8 @@ use Rattle.mb_base.specs.declared.value.NodeId.{NodeId}
 use Rattle.mb_base.specs.declared.value.Side.{Side}
 use Rattle.mb_base.specs.declared.value.Value.{Value}
 use Rattle.mb_desc.specs.declared.descriptor.Desc.{Desc}
-use Rattle.mb_eval_expr.specs.declared.props.Definition.{Definition}
-use Rattle.mb_eval_expr.specs.declared.props.Definition.TheVariants as def
+use Rattle.mb_eval_expr.specs.declared.definitions.Definition.{Definition}
+use Rattle.mb_eval_expr.specs.declared.definitions.Definition.TheVariants as def
 use Rattle.mb_eval_expr.specs.declared.props.Literal.{Literal}
 use Rattle.mb_eval_expr.specs.machine.Storing.{opened}
 use Rattle.mb_frames.specs.Going.{WentOn}

@@ -1,9 +1,9 @@
 -- What a frame asks of the value that is handed to it, and which frames take what.
-use Rattle.std.specs.Prelude.{Bool, ◌∷◌, ◌≡◌, ◌<◌, [], false, true}
+use Rattle.std.specs.Prelude.{Bool, None, Option, Some, ◌∷◌, ◌≡◌, [], false, true}
 use Rattle.mb_base.specs.declared.value.Side.{Side}
 use Rattle.mb_base.specs.declared.value.Value.{Value}
 use Rattle.mb_base.specs.declared.value.Value.TheVariants as v
-use Rattle.mb_eval_expr.specs.machine.Standing.{IsReal}
+use Rattle.mb_frames.specs.Real.{IsReal}
 use Rattle.mb_frames.specs.Grammatical.{asks_objects}
 use Rattle.mb_frames.specs.Held.{HeldArray, HeldValue}
 use Rattle.mb_frames.specs.Holding.{expr_held}
@@ -12,6 +12,10 @@ use Rattle.mb_frames.specs.declared.expressions.ExprFrame.{ExprFrame}
 use Rattle.mb_frames.specs.declared.expressions.ExprFrame.TheVariants as e
 use Rattle.mb_frames.specs.declared.task.Answer.{Answer}
 use Rattle.mb_frames.specs.declared.task.Answer.TheVariants as a
+use Rattle.mb_frames.specs.declared.frame.Frame.{Frame}
+use Rattle.mb_frames.specs.declared.frame.Frame.TheVariants as x
+use Rattle.mb_frames.specs.declared.task.Outcome.{Outcome}
+use Rattle.mb_frames.specs.declared.task.Outcome.TheVariants as o
 use Rattle.mb_world.proofs.Values.{Apart}
 use Rattle.mb_world.specs.Data.{Data}
 use Rattle.mb_world.specs.Formed.{InRange, IsNullOrObject}
@@ -63,3 +67,11 @@ Takes d home (e.PropKey at node object property place) x =
 Takes d home (e.PropValue at node object place key) x =
     IsReady d × Holds d home (HeldValue x ∷ expr_held (e.PropValue at node object place key))
 Takes d home frame x = Unit {0}
+
+-- the outcome is there that an expression waits for
+abbrev pub IsGiven : Data → Side → Frame → Option Outcome → Type 0
+IsGiven d home (x.Expr frame) None = ⊥
+IsGiven d home (x.Expr frame) (Some (o.Normal answer)) = Takes d home frame (value_held answer)
+IsGiven d home (x.Expr frame) (Some (o.Throw y)) = Unit {0}
+IsGiven d home (x.Expr frame) (Some outcome) = ⊥
+IsGiven d home frame _ = Unit {0}

@@ -1,17 +1,15 @@
--- What becomes of one declaration, and which node declares a function.
-use Rattle.std.specs.Prelude.{Err, None, Ok, Option, Result, Some, length, slice_get, ℕ, ◌≡◌}
+-- What becomes of one declaration.
+use Rattle.std.specs.Prelude.{Err, None, Ok, Option, Result, Some, ◌≡◌}
 use Rattle.mb_base.specs.declared.value.NodeId.{NodeId}
 use Rattle.mb_base.specs.declared.value.StrId.{StrId}
-use Rattle.mb_base.specs.declared.value.Side.{Side}
 use Rattle.mb_frames.specs.Going.{WentOn}
-use Rattle.mb_frames.specs.Standing.{forms_at}
-use Rattle.mb_frames.specs.declared.machine.Halt.{Halt}
 use Rattle.mb_frames.specs.declared.machine.Halt.TheVariants.{NoMemory, Spent as SpentHalt}
+use Rattle.mb_frames.specs.declared.machine.Halt.{Halt}
 use Rattle.mb_model.specs.Nodes.Evaluation.{Context}
 use Rattle.mb_model.specs.Nodes.Statements.{decl_of}
 use Rattle.mb_model.specs.Task.{Answer, Nothing}
 use Rattle.mb_world.specs.Data.{Data}
-use Rattle.mb_world.specs.Form.{DeclForm, Form, FunctionDeclForm, FunctionParts}
+use Rattle.mb_world.specs.Form.{DeclForm, Form}
 use Rattle.mb_world.specs.Ids.{TextIn}
 use Rattle.mb_world.specs.Image.{names_of, text_in}
 
@@ -26,10 +24,3 @@ Declares (Ok None) d d' form c = WentOn Answer d d' 0 0 (decl_of c form) Nothing
 Declares (Ok (Some p)) d d' form c = Waits d d' form p.0 p.1
 Declares (Err SpentHalt) d d' form c = ⊥
 Declares (Err NoMemory) d d' form c = Unit {0}
-
--- the node declares a function with so many Params
-pub record IsDeclared (d : Data) (home : Side) (statement : NodeId) (name : StrId) (params : ℕ) : Type 0 where
-  pub parts : FunctionParts
-  pub there : slice_get (forms_at d home) statement.0 ≡ Some (FunctionDeclForm (text_in (names_of d) name) parts)
-  pub count : length parts.params ≡ params
-  pub text : TextIn d name

@@ -10,18 +10,14 @@ use Rattle.mb_frames.specs.Resolved.{node_in}
 use Rattle.mb_frames.specs.Rest.Statements.{lets_of}
 use Rattle.mb_frames.specs.Standing.{forms_at}
 use Rattle.mb_frames.specs.Told.{IsNodeOf}
-use Rattle.mb_frames.specs.declared.statements.StmtFrame.{StmtFrame}
 use Rattle.mb_frames.specs.declared.statements.StmtFrame.TheVariants as x
-use Rattle.mb_frames.specs.declared.task.Context.{Context}
-use Rattle.mb_frames.specs.declared.task.Outcome.{Outcome}
+use Rattle.mb_frames.specs.declared.statements.StmtFrame.{StmtFrame}
 use Rattle.mb_frames.specs.declared.task.Outcome.TheVariants as o
+use Rattle.mb_frames.specs.declared.task.Outcome.{Outcome}
 use Rattle.mb_tree.specs.Form as t
 use Rattle.mb_world.specs.Data.{Data}
 use Rattle.mb_world.specs.Form.{ForForm}
-use Rattle.mb_world.specs.Ids.{Maybe, ScopeIn, ValueIn}
-
-abbrev pub ContextIn : Data → Context → Type 0
-ContextIn d at = ScopeIn d at.scope × ValueIn d at.this
+use Rattle.mb_world.specs.Ids.{Maybe}
 
 abbrev pub OutcomeIn : Data → Outcome → Type 0
 OutcomeIn d y = AreIn d (outcome_held y)

@@ -27,8 +27,8 @@ pub keeps-body_next : (kept : Kept) (x0 : Does Answer) (px0 : Goes kept (x0)) (x
 keeps-body_next kept more keeps-more (Normal a) = keeps-more
 keeps-body_next kept more keeps-more (Throw v) = keeps-ends kept (Throw v) tt
 keeps-body_next kept more keeps-more (Return v) = keeps-is_value kept v
-keeps-body_next kept more keeps-more Break = keeps-ends kept Break tt
-keeps-body_next kept more keeps-more Continue = keeps-ends kept Continue tt
+keeps-body_next kept more keeps-more Break = keeps-is_value kept Undefined
+keeps-body_next kept more keeps-more Continue = keeps-is_value kept Undefined
 
 pub keeps-body : (kept : Kept) (x0 : Context) (x1 : List ℕ) → Goes kept (body x0 x1)
 keeps-body kept c [] = keeps-is_value kept Undefined

@@ -24,13 +24,13 @@ abbrev pub this_of : Option Val → Val → Val
 this_of None this = this
 this_of (Some bound) this = bound
 
--- a statement of a body ended
+-- a statement of a body ended; no jump leaves a body (ECMA-262 14.8.1, 14.9.1)
 abbrev pub body_next : Does Answer → Outcome → Does Answer
 body_next more (Normal a) = more
 body_next more (Throw v) = ends (Throw v)
 body_next more (Return v) = is_value v
-body_next more Break = ends Break
-body_next more Continue = ends Continue
+body_next more Break = is_value Undefined
+body_next more Continue = is_value Undefined
 
 abbrev pub body : Context → List ℕ → Does Answer
 body c [] = is_value Undefined

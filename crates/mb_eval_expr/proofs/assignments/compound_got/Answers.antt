@@ -1,6 +1,6 @@
 use Rattle.mb_frames.specs.Sorts.{AValue}
 use Rattle.mb_frames.specs.Ready.{Changed}
-use Rattle.mb_eval_expr.proofs.Texting.{texts-changed}
+use Rattle.mb_parts.proofs.Texting.{texts-changed}
 use Rattle.mb_frames.proofs.Leaving.{holds-still}
 use Rattle.mb_eval_expr.proofs.Keeping.{kept-halted, kept-then, plain-held, stays}
 use Rattle.mb_frames.proofs.Keeping.{inside-still}
@@ -8,7 +8,7 @@ use Rattle.std.proofs.Common.{subst}
 use Rattle.std.proofs.lemmas.Result.{err_from_is_err_and}
 use Rattle.mb_eval_expr.proofs.Joining.{Part-halted, put-grows}
 use Rattle.mb_frames.proofs.Passed.{Part-passed}
-use Rattle.mb_eval_expr.proofs.Writing.{Acts-texts}
+use Rattle.mb_parts.proofs.Writing.{Acts-texts}
 use Rattle.mb_frames.specs.Passing.{Part, TextsGrew}
 use Rattle.mb_frames.proofs.Growing.{are-grown}
 use Rattle.mb_frames.specs.Holding.{reference_held}
@@ -60,7 +60,7 @@ returns-in-Faulty-clause-row c =
     (compound_got x c.args.sign r (Resolve n c.args.old) (Resolve n c.args.x) finished)
     (fail c.args.home.0 c.in-Faulty.kind finished)
     (h.0 k)
-    (c.throws.ensures.row f')
+    (c.throws.ensures.part f')
 
 pub returns-in_err-computed-clause-row : goal.returns-in_err-computed-clause-row
 returns-in_err-computed-clause-row c =
@@ -70,8 +70,10 @@ returns-in_err-computed-clause-row c =
     let r = reference_in n c.args.to in
     let k : Answer → Graph → Row = λ a. put_and_give x r (value_in a) (value_in a) finished in
     let p = err_from_is_err_and c.from_residual.result c.from_residual.ensures.1 in
-    rw (p.1, p.2) (Part-halted c.args.home c.in_err-computed.field-0.0 d c.compute.new.w c.args.fuel.now c.compute.new.fuel
-    (operate c.args.home.0 c.args.sign (Resolve n c.args.old) (Resolve n c.args.x)) k (c.in_err-computed.ensures.row c.args.home.0))
+    rw (p.1, p.2) (Part-halted c.args.home c.in_err-computed.field-0.0 d c.compute.new.w c.args.fuel.now
+    c.compute.new.fuel
+    (operate c.args.home.0 c.args.sign (Resolve n c.args.old) (Resolve n c.args.x)) k
+    (c.in_err-computed.ensures.row c.args.home.0))
 
 pub put_and_give-requires : goal.put_and_give-requires
 put_and_give-requires c =

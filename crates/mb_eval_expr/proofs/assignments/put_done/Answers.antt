@@ -13,7 +13,7 @@ returns-then-done-clause-row c = λ f.
     (c.value.ensures.row c.args.home d c.requires.gives))
 
 pub returns-else-done-clause-row : goal.returns-else-done-clause-row
-returns-else-done-clause-row c = λ f. rw c.if-done.false (c.type_error.ensures.row f)
+returns-else-done-clause-row c = λ f. rw c.if-done.false (c.type_error.ensures.part f)
 
 pub returns-then-done-clause-keeps : goal.returns-then-done-clause-keeps
 returns-then-done-clause-keeps c = λ r i h.

@@ -41,7 +41,7 @@ returns-in-Faulty-clause-row c = λ f.
     Part-passed c.args.home c.throws.result d d c.throws.new.w f f f
     (update_old (context_in n c.args.home.0 c.args.at) c.args.plus c.args.prefix r (Resolve n c.args.old) finished)
     (fail c.args.home.0 c.in-Faulty.kind finished)
-    (h.0 k) (c.throws.ensures.row f)
+    (h.0 k) (c.throws.ensures.part f)
 
 pub put_and_give-requires-clause-value : goal.put_and_give-requires-clause-value
 put_and_give-requires-clause-value c =

@@ -14,26 +14,34 @@ use Rattle.mb_eval_expr.proofs.assignments.write_at.Goals as goal
 pub returns-in-None-value-clause-row : goal.returns-in-None-value-clause-row
 returns-in-None-value-clause-row c = λ f.
     let n = names_of c.args.w.now in
-    Part-ungiven c.args.home c.args.w.now f c.args.scope.0 (text_in n c.args.name) (Resolve n c.args.x) (Resolve n c.args.gives)
-    c.args.at c.args.place c.scope.result.now c.in-Some.bound c.scope.ensures.value (sym c.at.ensures ∙ c.in-Some.is) c.requires.found
-    c.throws.result c.throws.new.w c.in-None-value.is (c.throws.ensures.row f)
+    Part-ungiven c.args.home c.args.w.now f c.args.scope.0 (text_in n c.args.name) (Resolve n c.args.x)
+    (Resolve n c.args.gives)
+    c.args.at c.args.place c.scope.result.now c.in-Some.bound c.scope.ensures.value (sym c.at.ensures ∙ c.in-Some.is)
+    c.requires.found
+    c.throws.result c.throws.new.w c.in-None-value.is (c.throws.ensures.part f)
 
 pub returns-then-bound-clause-row : goal.returns-then-bound-clause-row
 returns-then-bound-clause-row c = λ f.
     let n = names_of c.args.w.now in
-    Part-fixed c.args.home c.args.w.now f c.args.scope.0 (text_in n c.args.name) (Resolve n c.args.x) (Resolve n c.args.gives)
-    c.args.at c.args.place c.scope.result.now c.in-Some.bound c.scope.ensures.value (sym c.at.ensures ∙ c.in-Some.is) c.requires.found
-    c.type_error.result c.type_error.new.w c.in-Some-value.field-0 c.in-Some-value.is c.if-bound.true (c.type_error.ensures.row f)
+    Part-fixed c.args.home c.args.w.now f c.args.scope.0 (text_in n c.args.name) (Resolve n c.args.x)
+    (Resolve n c.args.gives)
+    c.args.at c.args.place c.scope.result.now c.in-Some.bound c.scope.ensures.value (sym c.at.ensures ∙ c.in-Some.is)
+    c.requires.found
+    c.type_error.result c.type_error.new.w c.in-Some-value.field-0 c.in-Some-value.is c.if-bound.true
+    (c.type_error.ensures.part f)
 
 pub returns-else-bound-clause-row : goal.returns-else-bound-clause-row
 returns-else-bound-clause-row c = λ f.
     let n = names_of c.args.w.now in
-    Part-given c.args.home c.args.w.now f c.args.scope.0 (text_in n c.args.name) (Resolve n c.args.x) (Resolve n c.args.gives)
-    c.args.at c.args.place c.scope.result.now c.in-Some.bound c.scope.ensures.value (sym c.at.ensures ∙ c.in-Some.is) c.requires.found
+    Part-given c.args.home c.args.w.now f c.args.scope.0 (text_in n c.args.name) (Resolve n c.args.x)
+    (Resolve n c.args.gives)
+    c.args.at c.args.place c.scope.result.now c.in-Some.bound c.scope.ensures.value (sym c.at.ensures ∙ c.in-Some.is)
+    c.requires.found
     c.give.new.self c.in-Some-value.field-0 c.args.x c.args.gives c.value.result c.in-Some-value.is c.if-bound.false
     refl refl c.give.ensures (c.value.ensures.row c.args.home c.give.new.self
     (ValueIn-grows c.args.w.now c.give.new.self
-    (rw c.give.ensures (of-changed-scope c.args.w.now c.args.at c.scope.result.now (giving c.args.place c.args.x) c.scope.ensures.value).grows)
+    (rw c.give.ensures (of-changed-scope c.args.w.now c.args.at c.scope.result.now (giving c.args.place c.args.x)
+    c.scope.ensures.value).grows)
     c.args.gives c.requires.gives))
 
 pub unreachable-requires : goal.unreachable-requires

@@ -8,8 +8,9 @@ use Rattle.mb_eval_expr.proofs.assignments.write_name.Goals as goal
 pub returns-in-None-clause-row : goal.returns-in-None-clause-row
 returns-in-None-clause-row c = λ f.
     let n = names_of c.args.w.now in
-    Part-unbound c.args.home c.args.w.now f c.args.scope.0 (text_in n c.args.name) (Resolve n c.args.x) (Resolve n c.args.gives)
-    c.throws.result c.throws.new.w (λ log. sym (c.in-None.ensures.place log)) (c.throws.ensures.row f)
+    Part-unbound c.args.home c.args.w.now f c.args.scope.0 (text_in n c.args.name) (Resolve n c.args.x)
+    (Resolve n c.args.gives)
+    c.throws.result c.throws.new.w (λ log. sym (c.in-None.ensures.place log)) (c.throws.ensures.part f)
 
 pub write_at-requires-clause-found : goal.write_at-requires-clause-found
 write_at-requires-clause-found c = λ log. sym (c.in-Some.ensures.place log)

@@ -1,8 +1,8 @@
 use Rattle.mb_base.specs.declared.value.Value.TheVariants as v
 use Rattle.mb_frames.specs.Kinds.{is_array_form, is_call_form, is_object_form, is_seq_form}
-use Rattle.mb_eval_expr.proofs.Keeping.{kept-left, plain-held, sign-held, text-held}
+use Rattle.mb_eval_expr.proofs.Keeping.{kept-left, plain-held, sign-held}
 use Rattle.mb_frames.proofs.Keeping.{expression-held, node-held}
-use Rattle.std.proofs.Common.{List, None, Ok, [], false, true, ap, subst, sym, true≢false, ℕ, refl, Some, ◌∙◌, ◌≡◌}
+use Rattle.std.proofs.Common.{List, None, Ok, [], false, true, ap, subst, sym, true≢false, ℕ, refl, Some}
 use Rattle.mb_frames.proofs.Passed.{Part-sure}
 use Rattle.mb_eval_expr.proofs.Rows.{Part-call, Part-node, names-counted, plain-is}
 use Rattle.mb_frames.specs.Told.{numbers_of, parts_told, shapes_of, told_at}
@@ -23,30 +23,35 @@ use Rattle.mb_world.specs.Standard.{object_prototype}
 use Rattle.mb_world.specs.Image.{names_of}
 use Rattle.mb_world.specs.Value.{Undefined}
 use Rattle.mb_frames.specs.Making.{is_function_of}
+use Rattle.mb_frames.proofs.HeldLess.{text-held}
 use Rattle.mb_eval_expr.proofs.beginning.begin.Goals as goal
 
 pub returns-in-Name-clause-row : goal.returns-in-Name-clause-row
 returns-in-Name-clause-row c =
     let e = sym (rw c.in-Name.is at c.in-Some.ensures.form) in
-    Part-node c.args.home c.args.w.now c.args.at c.follow.result c.follow.new.w c.args.fuel.now c.args.fuel.now c.args.node _
+    Part-node c.args.home c.args.w.now c.args.at c.follow.result c.follow.new.w c.args.fuel.now c.args.fuel.now
+    c.args.node _
     c.requires.acts.runs.takes_part e (c.follow.ensures.row c.args.fuel.now)
 
 pub returns-in-Assign-clause-row : goal.returns-in-Assign-clause-row
 returns-in-Assign-clause-row c =
     let e = sym (rw c.in-Assign.is at c.in-Some.ensures.form) in
-    Part-node c.args.home c.args.w.now c.args.at c.refer.result c.refer.new.w c.args.fuel.now c.refer.new.fuel c.args.node _
+    Part-node c.args.home c.args.w.now c.args.at c.refer.result c.refer.new.w c.args.fuel.now c.refer.new.fuel
+    c.args.node _
     c.requires.acts.runs.takes_part e c.refer.ensures.row
 
 pub returns-in-Compound-clause-row : goal.returns-in-Compound-clause-row
 returns-in-Compound-clause-row c =
     let e = sym (rw c.in-Compound.is at c.in-Some.ensures.form) in
-    Part-node c.args.home c.args.w.now c.args.at c.refer-in-Compound.result c.refer-in-Compound.new.w c.args.fuel.now c.refer-in-Compound.new.fuel c.args.node _
+    Part-node c.args.home c.args.w.now c.args.at c.refer-in-Compound.result c.refer-in-Compound.new.w c.args.fuel.now
+    c.refer-in-Compound.new.fuel c.args.node _
     c.requires.acts.runs.takes_part e c.refer-in-Compound.ensures.row
 
 pub returns-in-Update-clause-row : goal.returns-in-Update-clause-row
 returns-in-Update-clause-row c =
     let e = sym (rw c.in-Update.is at c.in-Some.ensures.form) in
-    Part-node c.args.home c.args.w.now c.args.at c.refer-in-Update.result c.refer-in-Update.new.w c.args.fuel.now c.refer-in-Update.new.fuel c.args.node _
+    Part-node c.args.home c.args.w.now c.args.at c.refer-in-Update.result c.refer-in-Update.new.w c.args.fuel.now
+    c.refer-in-Update.new.fuel c.args.node _
     c.requires.acts.runs.takes_part e c.refer-in-Update.ensures.row
 
 pub returns-in-Call-clause-row : goal.returns-in-Call-clause-row
@@ -54,9 +59,11 @@ returns-in-Call-clause-row c =
     let d = c.args.w.now in
     let ns = numbers_of c.in-Call.arguments.now in
     let e = sym (rw c.in-Call.is at c.in-Some.ensures.form) in
-    Part-node c.args.home d c.args.at c.call_row.result c.call_row.new.w c.args.fuel.now c.call_row.new.fuel c.args.node _
+    Part-node c.args.home d c.args.at c.call_row.result c.call_row.new.w c.args.fuel.now c.call_row.new.fuel
+    c.args.node _
     c.requires.acts.runs.takes_part e
-    (Part-call c.args.home d c.args.at c.call_row.result c.call_row.new.w c.args.fuel.now c.call_row.new.fuel c.args.node
+    (Part-call c.args.home d c.args.at c.call_row.result c.call_row.new.w c.args.fuel.now c.call_row.new.fuel
+    c.args.node
     c.in-Call.callee ns c.requires.acts.runs.takes_part (ap parts_of e) c.call_row.ensures.row)
 
 pub returns-in-Seq-clause-row : goal.returns-in-Seq-clause-row
@@ -66,13 +73,15 @@ returns-in-Seq-clause-row c =
     let x = context_in (names_of d) c.args.home.0 c.args.at in
     let e = sym (rw c.in-Seq.is at c.in-Some.ensures.form) in
     Part-node c.args.home d c.args.at c.seq_got.result d f f c.args.node _ c.requires.acts.runs.takes_part e
-    (subst (λ (ns : List ℕ). Part c.args.home c.seq_got.result d d f f (sequence x ns Undefined finished)) (ap parts_of e)
+    (subst (λ (ns : List ℕ). Part c.args.home c.seq_got.result d d f f (sequence x ns Undefined finished))
+    (ap parts_of e)
     (c.seq_got.ensures.row f))
 
 pub returns-in-Unary-clause-row : goal.returns-in-Unary-clause-row
 returns-in-Unary-clause-row c =
     let e = sym (rw c.in-Unary.is at c.in-Some.ensures.form) in
-    Part-node c.args.home c.args.w.now c.args.at c.unary_row.result c.unary_row.new.w c.args.fuel.now c.unary_row.new.fuel c.args.node _
+    Part-node c.args.home c.args.w.now c.args.at c.unary_row.result c.unary_row.new.w c.args.fuel.now
+    c.unary_row.new.fuel c.args.node _
     c.requires.acts.runs.takes_part e c.unary_row.ensures.row
 
 pub returns-in-ArrayLit-clause-row : goal.returns-in-ArrayLit-clause-row
@@ -81,7 +90,8 @@ returns-in-ArrayLit-clause-row c =
     let f = c.args.fuel.now in
     let x = context_in (names_of d) c.args.home.0 c.args.at in
     let e = sym (rw c.in-ArrayLit.is at c.in-Some.ensures.form) in
-    Part-node c.args.home d c.args.at c.array_row.result c.array_row.new.w f f c.args.node _ c.requires.acts.runs.takes_part e
+    Part-node c.args.home d c.args.at c.array_row.result c.array_row.new.w f f c.args.node _
+    c.requires.acts.runs.takes_part e
     (subst (λ (ns : List ℕ). Part c.args.home c.array_row.result d c.array_row.new.w f f
     ((make_array c.args.home.0 [] >>= (λ a. elements x a 0 ns)) finished)) (ap parts_of e) (c.array_row.ensures.row f))
 
@@ -94,14 +104,16 @@ returns-in-ObjectLit-clause-row c =
     Part-node c.args.home d c.args.at c.object_row.result c.object_row.new.w f c.object_row.new.fuel c.args.node _
     c.requires.acts.runs.takes_part e
     (subst (λ (ns : List ℕ). Part c.args.home c.object_row.result d c.object_row.new.w f c.object_row.new.fuel
-    ((make_plain c.args.home.0 None object_prototype >>= (λ o. props x o ns)) finished)) (ap parts_of e) c.object_row.ensures.row)
+    ((make_plain c.args.home.0 None object_prototype >>= (λ o. props x o ns)) finished)) (ap parts_of e)
+    c.object_row.ensures.row)
 
 pub returns-in-Function-clause-row : goal.returns-in-Function-clause-row
 returns-in-Function-clause-row c =
     let d = c.args.w.now in
     let e = sym (rw c.in-Function.is at c.in-Some.ensures.form) in
     let parts = parts_told (nodes_in d.texts (shapes_of (program_of d c.args.home))) (seen_parts c.in-Function.parts) in
-    Part-node c.args.home d c.args.at c.function_row.result c.function_row.new.w c.args.fuel.now c.function_row.new.fuel c.args.node _
+    Part-node c.args.home d c.args.at c.function_row.result c.function_row.new.w c.args.fuel.now
+    c.function_row.new.fuel c.args.node _
     c.requires.acts.runs.takes_part e
     (c.function_row.ensures.row parts
     (names-counted (nodes_in d.texts (shapes_of (program_of d c.args.home))) c.in-Function.parts.params.now))
@@ -112,9 +124,11 @@ returns-in-Arrow-clause-row c =
     let f = c.args.fuel.now in
     let x = context_in (names_of d) c.args.home.0 c.args.at in
     let e = sym (rw c.in-Arrow.is at c.in-Some.ensures.form) in
-    Part-node c.args.home d c.args.at c.arrow_row.result c.arrow_row.new.w f f c.args.node _ c.requires.acts.runs.takes_part e
+    Part-node c.args.home d c.args.at c.arrow_row.result c.arrow_row.new.w f f c.args.node _
+    c.requires.acts.runs.takes_part e
     (subst (λ (n : ℕ). Part c.args.home c.arrow_row.result d c.arrow_row.new.w f f
-    ((make_function (code c.args.home.0 c.args.node.0 c.args.at.scope.0 false (Some x.this)) None n [] >>= is_value) finished))
+    ((make_function (code c.args.home.0 c.args.node.0 c.args.at.scope.0 false (Some x.this)) None n [] >>= is_value)
+    finished))
     (sym (names-counted (nodes_in d.texts (shapes_of (program_of d c.args.home))) c.in-Arrow.parts.params.now))
     (c.arrow_row.ensures.row f))
 
@@ -132,7 +146,8 @@ returns-in_default-clause-row c =
 pub first-requires : goal.first-requires
 first-requires c =
     plain-is c.args.w.now c.args.home c.in-Some.form (rw (sym c.in-Some.ensures.form) at c.requires.begun)
-    c.in_default.not-Name c.in_default.not-Assign c.in_default.not-Compound c.in_default.not-Update c.in_default.not-Call
+    c.in_default.not-Name c.in_default.not-Assign c.in_default.not-Compound c.in_default.not-Update
+    c.in_default.not-Call
     c.in_default.not-Seq c.in_default.not-Unary c.in_default.not-ArrayLit c.in_default.not-ObjectLit
     c.in_default.not-Function c.in_default.not-Arrow
 
@@ -172,8 +187,14 @@ returns-in-Call-clause-keeps c = λ r i h.
     let d = c.args.w.now in
     let k = rw c.in-Call.is at c.in-Some.ensures.parts in
     let e = sym (rw c.in-Call.is at c.in-Some.ensures.form) in
-    c.call_row.ensures.keeps r i
-    (node-held d c.args.home is_call_form c.args.node.0 (rw e refl), (expression-held d c.args.home c.in-Call.callee k.0, h))
+    c.call_row.ensures.keeps r i (
+      node-held d c.args.home is_call_form c.args.node.0 (rw e refl),
+      (
+        expression-held d c.args.home c.in-Call.callee
+            k.0,
+        h,
+      ),
+    )
 
 pub returns-in-Seq-clause-keeps : goal.returns-in-Seq-clause-keeps
 returns-in-Seq-clause-keeps c = λ r i h.
@@ -208,12 +229,20 @@ returns-in-ObjectLit-clause-keeps c = λ r i h.
 pub returns-in-Function-clause-keeps : goal.returns-in-Function-clause-keeps
 returns-in-Function-clause-keeps c = λ r i h.
     let e = sym (rw c.in-Function.is at c.in-Some.ensures.form) in
-    c.function_row.ensures.keeps r i (node-held c.args.w.now c.args.home (is_function_of true false) c.args.node.0 (rw e refl), h)
+    c.function_row.ensures.keeps r i (
+      node-held c.args.w.now c.args.home (is_function_of true false) c.args.node.0
+          (rw e refl),
+      h,
+    )
 
 pub returns-in-Arrow-clause-keeps : goal.returns-in-Arrow-clause-keeps
 returns-in-Arrow-clause-keeps c = λ r i h.
     let e = sym (rw c.in-Arrow.is at c.in-Some.ensures.form) in
-    c.arrow_row.ensures.keeps r i (node-held c.args.w.now c.args.home (is_function_of false true) c.args.node.0 (rw e refl), h)
+    c.arrow_row.ensures.keeps r i (
+      node-held c.args.w.now c.args.home (is_function_of false true) c.args.node.0
+          (rw e refl),
+      h,
+    )
 
 pub object_row-requires-clause-holds : goal.object_row-requires-clause-holds
 object_row-requires-clause-holds c =

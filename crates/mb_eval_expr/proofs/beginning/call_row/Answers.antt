@@ -28,7 +28,8 @@ returns-in-Member-clause-row c =
     let y = context_in (names_of d) c.args.home.0 c.args.at in
     let i = rw c.in-Member.is at c.strip-found.ensures.target in
     subst (λ (q : Option Form). Part c.args.home c.refer.result d c.refer.new.w c.args.fuel.now c.refer.new.fuel
-    (call_row y c.args.callee.0 (parts_at (forms_at d c.args.home) c.args.node.0) q finished)) (sym i) c.refer.ensures.row
+    (call_row y c.args.callee.0 (parts_at (forms_at d c.args.home) c.args.node.0) q finished))
+    (sym i) c.refer.ensures.row
 
 pub returns-in-Index-clause-row : goal.returns-in-Index-clause-row
 returns-in-Index-clause-row c =
@@ -36,17 +37,21 @@ returns-in-Index-clause-row c =
     let o = innermost (layers_at d c.args.home c.args.callee.0) in
     let y = context_in (names_of d) c.args.home.0 c.args.at in
     let i = rw c.in-Index.is at c.strip-found.ensures.target in
-    subst (λ (q : Option Form). Part c.args.home c.refer-in-Index.result d c.refer-in-Index.new.w c.args.fuel.now c.refer-in-Index.new.fuel
-    (call_row y c.args.callee.0 (parts_at (forms_at d c.args.home) c.args.node.0) q finished)) (sym i) c.refer-in-Index.ensures.row
+    subst (λ (q : Option Form). Part c.args.home c.refer-in-Index.result d c.refer-in-Index.new.w c.args.fuel.now
+    c.refer-in-Index.new.fuel
+    (call_row y c.args.callee.0 (parts_at (forms_at d c.args.home) c.args.node.0) q finished))
+    (sym i) c.refer-in-Index.ensures.row
 
 pub returns-in_default-clause-row : goal.returns-in_default-clause-row
 returns-in_default-clause-row c =
     let d = c.args.w.now in
     let o = innermost (layers_at d c.args.home c.args.callee.0) in
     let f = c.args.fuel.now in
-    let q = not-place c.args.home d c.args.at c.args.callee.0 (parts_at (forms_at d c.args.home) c.args.node.0) c.strip-found.result.target o
+    let q = not-place c.args.home d c.args.at c.args.callee.0 (parts_at (forms_at d c.args.home) c.args.node.0)
+    c.strip-found.result.target o
     c.strip-found.ensures.target c.in_default.not-Member c.in_default.not-Index in
-    let m : Move = move.Wait (x.Expr (e.Callee c.args.at c.args.node v.Undefined)) (t.Evaluate c.args.callee c.args.at) in
+    let m : Move = move.Wait (x.Expr (e.Callee c.args.at c.args.node v.Undefined))
+    (t.Evaluate c.args.callee c.args.at) in
     subst (λ (p : Does Answer). Part c.args.home (Ok m) d d f f (p finished)) (sym q)
     (Part-callee c.args.home d c.args.at f c.args.node c.args.callee c.requires.at)
 

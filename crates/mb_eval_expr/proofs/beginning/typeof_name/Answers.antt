@@ -1,7 +1,7 @@
 use Rattle.std.proofs.lemmas.Result.{err_from_is_err_and}
 use Rattle.mb_frames.specs.Sorts.{AValue}
 use Rattle.mb_frames.specs.Ready.{Changed}
-use Rattle.mb_eval_expr.proofs.Texting.{texts-changed}
+use Rattle.mb_parts.proofs.Texting.{texts-changed}
 use Rattle.mb_eval_expr.proofs.Keeping.{kept-now, kept-still, plain-held}
 use Rattle.mb_frames.proofs.Keeping.{inside-still}
 use Rattle.std.proofs.Common.{Ok, Option, ap, option_map, sym, ◌∙◌}
@@ -42,7 +42,7 @@ returns-in-None-value-clause-row c = λ f.
     (reference_error s finished)
     (λ log. ap (λ (o : Option Binding). typeof_bound s o finished (Image d log)) (sym (c.in-Some.ensures.value log))
     ∙ ap (λ o. (value_bound s (option_map (Resolve n) o) >>= typeof_value) finished (Image d log)) c.in-None-value.is)
-    (c.throws.ensures.row f)
+    (c.throws.ensures.part f)
 
 pub returns-in_ok-text-in-None-clause-row : goal.returns-in_ok-text-in-None-clause-row
 returns-in_ok-text-in-None-clause-row c = λ f.
@@ -58,7 +58,8 @@ returns-in_ok-text-in-None-clause-row c = λ f.
     (Passes-texts d d' f p q t
     (λ log. ap (λ (o : Option Binding). typeof_bound s o finished (Image d log)) (sym (c.in-None.ensures.value log))
     ∙ ap (λ u. is_value (Text u) finished (Image d log)) (sym c.in_ok-text-in-None.ensures.text)))
-    (Part-sure c.args.home d' f q c.value.result (c.value.ensures.row c.args.home d' c.in_ok-text-in-None.ensures.within))
+    (Part-sure c.args.home d' f q c.value.result
+    (c.value.ensures.row c.args.home d' c.in_ok-text-in-None.ensures.within))
 
 pub returns-in-Some-value-clause-keeps : goal.returns-in-Some-value-clause-keeps
 returns-in-Some-value-clause-keeps c = λ r i h. c.typeof_value.ensures.keeps r i tt

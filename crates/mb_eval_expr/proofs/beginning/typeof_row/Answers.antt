@@ -21,7 +21,8 @@ use Rattle.mb_eval_expr.proofs.beginning.typeof_row.Goals as goal
 pub returns-in-Ok-clause-row : goal.returns-in-Ok-clause-row
 returns-in-Ok-clause-row c =
     let d = c.args.w.now in
-    Part-typeof c.args.home d c.args.at c.typeof_name.result c.typeof_name.new.w c.args.fuel.now c.charge_each.new.fuel c.charge_each.new.fuel
+    Part-typeof c.args.home d c.args.at c.typeof_name.result c.typeof_name.new.w c.args.fuel.now
+    c.charge_each.new.fuel c.charge_each.new.fuel
     c.args.operand.0 (text_in (names_of d) c.in-Name.name) c.requires.acts.runs.takes_part
     (rw c.strip-found.ensures.nodes at c.in-Ok.ensures.paid)
     (rw c.in-Name.is at c.strip-found.ensures.target)
@@ -32,14 +33,16 @@ returns-in-Err-clause-row c =
     let d = c.args.w.now in
     let u : c.args.fuel.now < length (layers_at d c.args.home c.args.operand.0)
     = grind (arith, common_steps, c.in-Err.ensures.spent, c.strip-found.ensures.nodes) in
-    rw c.in-Err.ensures.left (Part-typeof-unpaid c.args.home d c.args.at c.args.fuel.now c.args.operand.0 (text_in (names_of d) c.in-Name.name)
+    rw c.in-Err.ensures.left (Part-typeof-unpaid c.args.home d c.args.at c.args.fuel.now c.args.operand.0
+    (text_in (names_of d) c.in-Name.name)
     c.requires.acts.runs.takes_part u (rw c.in-Name.is at c.strip-found.ensures.target))
 
 pub returns-in_default-clause-row : goal.returns-in_default-clause-row
 returns-in_default-clause-row c =
     let d = c.args.w.now in
     let f = c.args.fuel.now in
-    let q = not-name c.args.home d c.args.at c.args.operand.0 c.strip-found.result.target (innermost (layers_at d c.args.home c.args.operand.0))
+    let q = not-name c.args.home d c.args.at c.args.operand.0 c.strip-found.result.target
+    (innermost (layers_at d c.args.home c.args.operand.0))
     c.strip-found.ensures.target c.in_default.not-Name in
     let m : Move = move.Wait (x.Expr e.Typeof) (t.Evaluate c.args.operand c.args.at) in
     subst (λ (p : Does Answer). Part c.args.home (Ok m) d d f f (p finished)) (sym q)

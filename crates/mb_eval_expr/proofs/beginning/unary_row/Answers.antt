@@ -13,7 +13,8 @@ use Rattle.mb_eval_expr.proofs.beginning.unary_row.Goals as goal
 
 pub returns-in-Typeof-clause-row : goal.returns-in-Typeof-clause-row
 returns-in-Typeof-clause-row c =
-    rw c.in-Typeof.is (Part-typeof-row c.args.home c.args.w.now c.args.at c.typeof_row.result c.typeof_row.new.w c.args.fuel.now
+    rw c.in-Typeof.is (Part-typeof-row c.args.home c.args.w.now c.args.at c.typeof_row.result c.typeof_row.new.w
+    c.args.fuel.now
     c.typeof_row.new.fuel c.args.operand c.requires.acts.runs.takes_part c.typeof_row.ensures.row)
 
 pub returns-in-Delete-clause-row : goal.returns-in-Delete-clause-row
@@ -32,9 +33,10 @@ returns-in_default-clause-row c =
     let d = c.args.w.now in
     let f = c.args.fuel.now in
     let x = context_in (names_of d) c.args.home.0 c.args.at in
-    let e = other-unary x c.args.operand.0 c.args.sign c.in_default.not-Typeof c.in_default.not-Delete c.in_default.not-Not c.in_default.not-Minus in
+    let e = other-unary x c.args.operand.0 c.args.sign c.in_default.not-Typeof c.in_default.not-Delete
+    c.in_default.not-Not c.in_default.not-Minus in
     subst (λ (p : Does Answer). Part c.args.home c.type_error.result d c.type_error.new.w f f (p finished)) (sym e)
-    (c.type_error.ensures.row f)
+    (c.type_error.ensures.part f)
 
 pub returns-in-Typeof-clause-keeps : goal.returns-in-Typeof-clause-keeps
 returns-in-Typeof-clause-keeps c = λ r i h. c.typeof_row.ensures.keeps r i h

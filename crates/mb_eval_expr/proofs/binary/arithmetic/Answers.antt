@@ -15,4 +15,5 @@ pub returns-in_default-clause-row : goal.returns-in_default-clause-row
 returns-in_default-clause-row c = λ home d f.
     let n = names_of d in
     wrong-type-at home d f (operate home c.args.sign (Resolve n c.args.a) (Resolve n c.args.b))
-    (arithmetic-left home c.args.sign (Resolve n c.args.a) (Resolve n c.args.b) c.requires (no-whole n c.args.a c.in_default.not-Whole))
+    (arithmetic-left home c.args.sign (Resolve n c.args.a) (Resolve n c.args.b) c.requires
+    (no-whole n c.args.a c.in_default.not-Whole))

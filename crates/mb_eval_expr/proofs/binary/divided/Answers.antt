@@ -19,9 +19,11 @@ returns-then-wrapping_rem-eq0-clause-row c = λ home d f.
     let rb : to_z w64 (of_z w64 c.args.b) ≡ c.args.b = to_z-of_z w64 c.args.b c.ranges.b in
     let q = rw (ra, rb) at c.wrapping_rem.ensures in
     let k : is_zero (int_rem c.args.a c.args.b) ≡ true
-    = ap is_zero (sym q) ∙ zero-yes c.wrapping_rem.result (record { sfits = c.wrapping_rem.type_inv }) c.if-wrapping_rem-eq0.true in
+    = ap is_zero (sym q) ∙ zero-yes c.wrapping_rem.result (record { sfits = c.wrapping_rem.type_inv })
+    c.if-wrapping_rem-eq0.true in
     rw (i, k) (c.whole.ensures.row home d f (int_div c.args.a c.args.b)
-    (known-first c.checked_div.result (IsNonZero w64 c.args.b) (FitsSigned w64 (int_div c.args.a c.args.b)) (int_div c.args.a c.args.b)
+    (known-first c.checked_div.result (IsNonZero w64 c.args.b) (FitsSigned w64 (int_div c.args.a c.args.b))
+    (int_div c.args.a c.args.b)
     (non-zero c.args.b c.if-b-eq0.false) (rw (ra, rb) at c.checked_div.ensures)))
 
 pub returns-else-wrapping_rem-eq0-clause-row : goal.returns-else-wrapping_rem-eq0-clause-row

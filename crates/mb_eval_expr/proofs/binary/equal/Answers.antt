@@ -5,4 +5,5 @@ use Rattle.mb_eval_expr.proofs.binary.equal.Goals as goal
 pub returns : goal.returns
 returns c =
     c.eq.ensures
-    ∙ sym (same-as c.args.w.now c.texts-texts.ensures.distinct c.args.a c.args.b c.requires.left c.requires.right c.requires.apart)
+    ∙ sym (same-as c.args.w.now c.texts-texts.ensures.distinct c.args.a c.args.b c.requires.left c.requires.right
+    c.requires.apart)

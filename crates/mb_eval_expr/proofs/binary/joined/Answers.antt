@@ -1,5 +1,5 @@
 use Rattle.mb_eval_expr.proofs.Joining.{Computes-joined, Computes-no-left, Computes-no-right, TextsGrew-then, err-then, grew-then}
-use Rattle.mb_eval_expr.proofs.Writing.{TextsGrew-same}
+use Rattle.mb_parts.proofs.Writing.{TextsGrew-same}
 use Rattle.std.proofs.lemmas.Result.{err_from_is_err_and}
 use Rattle.mb_world.specs.Data.{Data}
 use Rattle.mb_eval_expr.proofs.binary.joined.Goals as goal
@@ -17,7 +17,8 @@ returns-in-Some-second-clause-grew c =
     let d1 : Data = c.text_from.new.w in
     let d2 : Data = c.text_from-in-Some.new.w in
     grew-then c.join.result c.args.w.now d2 c.join.new.w
-    (TextsGrew-then c.args.w.now d1 d2 c.in_ok-first.ensures.grew c.in_ok-second-in-Some.ensures.grew) c.join.ensures.grew
+    (TextsGrew-then c.args.w.now d1 d2 c.in_ok-first.ensures.grew c.in_ok-second-in-Some.ensures.grew)
+    c.join.ensures.grew
 
 pub returns-in-None-second-clause-row : goal.returns-in-None-second-clause-row
 returns-in-None-second-clause-row c = λ home.
@@ -47,4 +48,5 @@ returns-in-Some-second-clause-halted c =
     let d1 : Data = c.text_from.new.w in
     let d2 : Data = c.text_from-in-Some.new.w in
     err-then c.join.result c.args.w.now d2 c.join.new.w
-    (TextsGrew-then c.args.w.now d1 d2 c.in_ok-first.ensures.grew c.in_ok-second-in-Some.ensures.grew) c.join.ensures.halted
+    (TextsGrew-then c.args.w.now d1 d2 c.in_ok-first.ensures.grew c.in_ok-second-in-Some.ensures.grew)
+    c.join.ensures.halted

@@ -11,7 +11,8 @@ pub returns-in-Whole-b-clause-row : goal.returns-in-Whole-b-clause-row
 returns-in-Whole-b-clause-row c = λ home.
     let ra : to_z w64 (of_z w64 c.in-Whole.x) ≡ c.in-Whole.x = search rules in
     let rb : to_z w64 (of_z w64 c.in-Whole-b.y) ≡ c.in-Whole-b.y = search rules in
-    rw (c.in-Whole.is, c.in-Whole-b.is) (c.whole.ensures.row home c.args.w.now c.args.fuel.now (c.in-Whole.x +ℤ c.in-Whole-b.y)
+    rw (c.in-Whole.is, c.in-Whole-b.is) (c.whole.ensures.row home c.args.w.now c.args.fuel.now
+    (c.in-Whole.x +ℤ c.in-Whole-b.y)
     (rw (ra, rb) at c.checked_add.ensures))
 
 pub returns-in-Text-clause-row : goal.returns-in-Text-clause-row
@@ -41,5 +42,6 @@ returns-in-Text-b-2-clause-row c = λ home.
     let p : Does Answer = sum home (Resolve n c.args.a) (Resolve n c.args.b) in
     let q : Does Answer = joined home (Resolve n c.args.a) (Resolve n c.args.b) in
     let e : p ≡ q = rw c.in-Text-b-2.is (sum-right home (Resolve n c.args.a) (text_in n c.in-Text-b-2.field-0)) in
-    Computes-by c.joined-in-Text-b-2.result home d c.joined-in-Text-b-2.new.w c.args.fuel.now c.joined-in-Text-b-2.new.fuel p q e
+    Computes-by c.joined-in-Text-b-2.result home d c.joined-in-Text-b-2.new.w c.args.fuel.now
+    c.joined-in-Text-b-2.new.fuel p q e
     (c.joined-in-Text-b-2.ensures.row home)

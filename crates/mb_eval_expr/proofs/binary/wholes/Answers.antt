@@ -31,4 +31,5 @@ returns-in-Percent-clause-row c = λ home d f.
 
 pub returns-in_default-clause-row : goal.returns-in_default-clause-row
 returns-in_default-clause-row c =
-    absurd (no-arithmetic c.args.sign c.requires c.in_default.not-Minus c.in_default.not-Times c.in_default.not-Slash c.in_default.not-Percent)
+    absurd (no-arithmetic c.args.sign c.requires c.in_default.not-Minus c.in_default.not-Times c.in_default.not-Slash
+    c.in_default.not-Percent)

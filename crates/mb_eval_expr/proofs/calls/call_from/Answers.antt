@@ -8,13 +8,16 @@ use Rattle.mb_eval_expr.proofs.calls.call_from.Goals as goal
 
 pub returns-in-Some-clause-row : goal.returns-in-Some-clause-row
 returns-in-Some-clause-row c = λ f.
-    Part-argument c.args.home c.args.w.now f c.args.at c.args.node c.args.callee c.args.done c.requires.at c.requires.callee c.requires.done
+    Part-argument c.args.home c.args.w.now f c.args.at c.args.node c.args.callee c.args.done c.requires.at
+    c.requires.callee c.requires.done
     c.in-Some.next c.args.this c.requires.this (rw c.len.ensures at (sym c.in-Some.ensures.part))
 
 pub returns-in-None-clause-row : goal.returns-in-None-clause-row
 returns-in-None-clause-row c = λ f.
-    Part-arguments c.args.home c.args.w.now f c.args.at c.args.node c.args.callee c.args.done c.requires.at c.requires.callee c.requires.done
-    c.call_all.result c.call_all.new.w c.args.this (rw c.len.ensures at (sym c.in-None.ensures.part)) (c.call_all.ensures.row f)
+    Part-arguments c.args.home c.args.w.now f c.args.at c.args.node c.args.callee c.args.done c.requires.at
+    c.requires.callee c.requires.done
+    c.call_all.result c.call_all.new.w c.args.this (rw c.len.ensures at (sym c.in-None.ensures.part))
+    (c.call_all.ensures.row f)
 
 pub returns-in-Some-clause-keeps : goal.returns-in-Some-clause-keeps
 returns-in-Some-clause-keeps c =

@@ -14,5 +14,10 @@ returns-clause-row c = λ f. rw c.new.ensures at (c.call_from.ensures.row f)
 pub returns-clause-keeps : goal.returns-clause-keeps
 returns-clause-keeps c =
     let none : (d : Data) (home : Side) → MayHold d home (HeldValues c.new.result) = λ d home.
-    rw c.new.ensures (record { within = All-nil (ValueIn d); sound = All-nil InRange; own = λ u. All-nil (IsOwn d home) }) in
-    λ r i h. c.call_from.ensures.keeps r i ((h.1.0, (h.1.1.0, (h.1.1.1.0, (h.0, (h.1.1.1.1.0, (none c.args.w.now c.args.home, tt)))))))
+    rw c.new.ensures (record {
+      within = All-nil (ValueIn d);
+      sound = All-nil InRange;
+      own = λ u. All-nil (IsOwn d home);
+    }) in
+    λ r i h. c.call_from.ensures.keeps r i
+    ((h.1.0, (h.1.1.0, (h.1.1.1.0, (h.0, (h.1.1.1.1.0, (none c.args.w.now c.args.home, tt)))))))

@@ -1,40 +1,38 @@
 use Rattle.std.proofs.Common.{[], refl}
-use Rattle.mb_eval_expr.proofs.Keeping.{kept-left, object-held}
+use Rattle.mb_eval_expr.proofs.Keeping.{kept-left}
+use Rattle.mb_base.specs.declared.value.Value.TheVariants as v
+use Rattle.mb_frames.specs.Held.{HeldConstructor}
+use Rattle.mb_frames.specs.Ready.{MayHold}
 use Rattle.mb_frames.specs.Sorts.{AValue}
 use Rattle.mb_eval_expr.proofs.Calling.{Part-made, Part-unmade}
+use Rattle.mb_frames.proofs.HeldLess.{value-object}
 use Rattle.mb_eval_expr.proofs.calls.new_all.Goals as goal
 
 pub returns-in-Some-clause-row : goal.returns-in-Some-clause-row
 returns-in-Some-clause-row c = λ f.
     Part-made c.args.home c.args.w.now f c.args.callee c.in-Some.object c.args.arguments c.performs.result
     c.in-Some.ensures.object c.in-Some.ensures.constructs
-    (c.performs.ensures.row c.args.w.now (rw c.in-Some.ensures.object at c.requires.callee)
-    (c.requires.arguments, (rw c.in-Some.ensures.object at c.requires.callee, tt)))
+    (c.performs.ensures.row c.args.w.now (rw c.in-Some.ensures.object at c.requires.callee) (
+      c.requires.arguments,
+      (rw c.in-Some.ensures.object at c.requires.callee, (rw c.in-Some.ensures.object at c.requires.callee, tt)),
+    ))
 
 pub returns-in-None-clause-row : goal.returns-in-None-clause-row
 returns-in-None-clause-row c = λ f.
     Part-unmade c.args.home c.args.w.now f c.type_error.result c.type_error.new.w c.args.callee c.args.arguments
-    c.in-None.ensures.constructs (c.type_error.ensures.row f)
+    c.in-None.ensures.constructs (c.type_error.ensures.part f)
 
 pub returns-in-Some-clause-keeps : goal.returns-in-Some-clause-keeps
 returns-in-Some-clause-keeps c =
     let d = c.args.w.now in
     λ r i h. kept-left c.args.home d r (
     let x = rw c.in-Some.ensures.object at h.0 in
-    c.performs.ensures.leaves d refl r i (
-      object-held d c.args.home c.in-Some.object x,
-      (
-        h.1.0,
-        (
-          record {
-            within = x.within;
-            sound = rw c.in-Some.ensures.object at (c.in-Some.ensures.constructs []);
-            own = x.own;
-          },
-          tt,
-        ),
-      ),
-    ))
+    let y : MayHold d c.args.home (HeldConstructor (v.Object c.in-Some.object)) = record {
+      within = x.within;
+      sound = rw c.in-Some.ensures.object at (c.in-Some.ensures.constructs []);
+      own = x.own;
+    } in
+    c.performs.ensures.leaves d refl r i (value-object d c.args.home c.in-Some.object x, (h.1.0, (y, (y, tt)))))
 
 pub returns-in-None-clause-keeps : goal.returns-in-None-clause-keeps
 returns-in-None-clause-keeps c =

@@ -8,12 +8,14 @@ use Rattle.mb_eval_expr.proofs.calls.new_from.Goals as goal
 
 pub returns-in-Some-clause-row : goal.returns-in-Some-clause-row
 returns-in-Some-clause-row c = λ f.
-    Part-argument-new c.args.home c.args.w.now f c.args.at c.args.node c.args.callee c.args.done c.requires.at c.requires.callee c.requires.done
+    Part-argument-new c.args.home c.args.w.now f c.args.at c.args.node c.args.callee c.args.done c.requires.at
+    c.requires.callee c.requires.done
     c.in-Some.next (rw c.len.ensures at (sym c.in-Some.ensures.part))
 
 pub returns-in-None-clause-row : goal.returns-in-None-clause-row
 returns-in-None-clause-row c = λ f.
-    Part-arguments-new c.args.home c.args.w.now f c.args.at c.args.node c.args.callee c.args.done c.requires.at c.requires.callee c.requires.done
+    Part-arguments-new c.args.home c.args.w.now f c.args.at c.args.node c.args.callee c.args.done c.requires.at
+    c.requires.callee c.requires.done
     c.new_all.result c.new_all.new.w (rw c.len.ensures at (sym c.in-None.ensures.part)) (c.new_all.ensures.row f)
 
 pub returns-in-Some-clause-keeps : goal.returns-in-Some-clause-keeps

@@ -14,7 +14,8 @@ returns-else-next-eq4294967295-clause-row c = λ f.
 pub returns-in-None-clause-row : goal.returns-in-None-clause-row
 returns-in-None-clause-row c = λ f.
     Part-sequenced c.args.home c.args.w.now f c.args.at c.args.node c.requires.at
-    c.args.next c.args.x c.requires.value (sym c.in-None.ensures.part) c.value.result (c.value.ensures.row c.args.home c.args.w.now c.requires.value)
+    c.args.next c.args.x c.requires.value (sym c.in-None.ensures.part) c.value.result
+    (c.value.ensures.row c.args.home c.args.w.now c.requires.value)
 
 pub returns-else-next-eq4294967295-clause-keeps : goal.returns-else-next-eq4294967295-clause-keeps
 returns-else-next-eq4294967295-clause-keeps c =

@@ -6,5 +6,6 @@ use Rattle.mb_eval_expr.proofs.computing.is_in_range.Goals as goal
 
 pub returns : goal.returns
 returns c =
-    ap (λ n. nat_le n 9007199254740991) (c.unsigned_abs.ensures.value ∙ ap unsigned_abs (to_z-of_z w64 c.args.z c.ranges.z))
+    ap (λ n. nat_le n 9007199254740991) (c.unsigned_abs.ensures.value ∙ ap unsigned_abs
+    (to_z-of_z w64 c.args.z c.ranges.z))
     ∙ range-is c.args.z

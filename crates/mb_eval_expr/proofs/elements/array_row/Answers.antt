@@ -36,7 +36,8 @@ returns-clause-row c = λ f.
     ((make_array s [] >>= (λ o. elements x o 0 ns)) finished) (q finished)
     (Makes-passes d d' f (make_array s []) id (λ o. elements x o 0 ns finished) c.in_ok-array.ensures.makes)
     (Part-same c.args.home c.elements_from.result d' d' f f q q'
-    (elements-grow d d' c.args.home c.args.at c.requires.acts.ids c.in_ok-array.ensures.makes.grew c.requires.at c.args.node.0 a 0)
+    (elements-grow d d' c.args.home c.args.at c.requires.acts.ids c.in_ok-array.ensures.makes.grew c.requires.at
+    c.args.node.0 a 0)
     (c.elements_from.ensures.row f))
 
 pub returns-in_err-array-clause-keeps : goal.returns-in_err-array-clause-keeps
@@ -52,4 +53,5 @@ returns-clause-keeps c = λ r i h.
     let k = c.in_ok-array.ensures.keeps r i tt in
     let g = holds-still home d d' r k.changed (HeldNode is_array_form c.args.node.0 ∷ context_held c.args.at) h in
     kept-then home d d' k.changed d'
-    (c.elements_from.ensures.keeps k.changed.ready (inside-still home d d' k.changed i) (g.1.0, (g.1.1.0, (g.0, (k.holds.0, tt)))))
+    (c.elements_from.ensures.keeps k.changed.ready (inside-still home d d' k.changed i)
+    (g.1.0, (g.1.1.0, (g.0, (k.holds.0, tt)))))

@@ -60,6 +60,8 @@ returns-clause-keeps c = λ r i h.
     let d' : Data = c.store_element.new.w in
     let home = c.args.home in
     let k = c.in_ok-store_element.ensures.keeps r i (h.1.1.1.1.0, (h.0, tt)) in
-    let g = holds-still home d d' r k.changed (expr_held (e.Element c.args.at c.args.node c.args.array c.args.place)) h.1 in
+    let g = holds-still home d d' r k.changed (expr_held (e.Element c.args.at c.args.node c.args.array c.args.place))
+    h.1 in
     kept-then home d d' k.changed d'
-    (c.elements_from.ensures.keeps k.changed.ready (inside-still home d d' k.changed i) (g.0, (g.1.0, (g.1.1.0, (g.1.1.1.0, tt)))))
+    (c.elements_from.ensures.keeps k.changed.ready (inside-still home d d' k.changed i)
+    (g.0, (g.1.0, (g.1.1.0, (g.1.1.1.0, tt)))))

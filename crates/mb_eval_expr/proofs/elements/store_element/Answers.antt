@@ -1,28 +1,37 @@
-use Rattle.mb_frames.proofs.HeldLess.{array-object}
-use Rattle.mb_frames.specs.Ready.{Changed, MayHold}
-use Rattle.mb_world.specs.Key.{Named, index_of_key}
-use Rattle.mb_world.specs.Arrays.{index_key}
+use Rattle.std.proofs.Common.{◌∙◌, ◌≡◌, ◌∷◌, List, Some, [], arith, to_z, w64, ℕ, ap, refl, sym, subst}
 use Rattle.std.specs.Prelude.{pos}
-use Rattle.mb_world.specs.declared.cell.CellKind.TheVariants as kind
-use Rattle.mb_world.specs.Image.{key_in, names_of}
-use Rattle.mb_eval_expr.proofs.Keeping.{stays}
-use Rattle.mb_eval_expr.proofs.Texting.{texts-changed}
-use Rattle.mb_world.specs.Data.{Data}
-use Rattle.mb_text.specs.Index.{index_of}
-use Rattle.mb_eval_expr.proofs.Writing.{Acts-texts}
-use Rattle.std.proofs.lemmas.List.Elements.{All-cons, All-nil}
-use Rattle.std.proofs.Common.{List, ℕ, Some, [], ap, arith, refl, subst, sym, w64, ◌<◌, ◌^◌, ◌∙◌, ◌∷◌, ◌≡◌}
-use Rattle.mb_eval_expr.proofs.Stored.{Acts-stored, array-length, element-went, entries-stay, held-cell, index-key, tells-apart, then-stored}
-use Rattle.mb_frames.specs.Held.{HeldArray, HeldValue}
-use Rattle.mb_base.specs.declared.value.Key.TheVariants as k
-use Rattle.mb_text.specs.Texts.{text_at}
-use Rattle.mb_base.specs.declared.value.Key.{Key}
-use Rattle.mb_eval_expr.proofs.Extending.{element-kept}
-use Rattle.mb_frames.proofs.Halting.{halted-changed, halted-same}
-use Rattle.mb_frames.proofs.Readying.{changed-then}
-use Rattle.mb_frames.specs.Keeping.{none_held}
 use Rattle.std.proofs.lemmas.Int.{to_z_pos}
+use Rattle.std.proofs.lemmas.List.Elements.{All-cons, All-nil}
+use Rattle.mb_eval_expr.proofs.Keeping.{stays}
+use Rattle.mb_eval_expr.proofs.Lengthened.{element-changed}
+use Rattle.mb_eval_expr.proofs.Stored.{Acts-stored, element-went, entries-stay, then-stored}
+use Rattle.mb_parts.proofs.Texting.{texts-changed}
+use Rattle.mb_parts.proofs.Writing.{Acts-texts}
+use Rattle.mb_frames.proofs.HeldLess.{array-object}
+use Rattle.std.specs.List.{IsDistinct}
+use Rattle.std.specs.Map.{keys_of}
+use Rattle.mb_frames.proofs.Readying.{changed-then}
+use Rattle.mb_props.specs.Table.{same_key}
+use Rattle.mb_world.specs.Ids.{KeyIn}
+use Rattle.mb_world.specs.declared.cell.Cell.{Cell}
+use Rattle.mb_frames.proofs.Halting.{halted-changed, halted-same}
+use Rattle.mb_frames.specs.Keeping.{none_held}
+use Rattle.mb_frames.specs.Held.{HeldArray, HeldValue}
+use Rattle.mb_frames.specs.Ready.{MayHold}
+use Rattle.mb_world.specs.Data.{Data}
+use Rattle.mb_base.specs.declared.value.Key.{Key}
+use Rattle.mb_base.specs.declared.value.Key.TheVariants as k
+use Rattle.mb_text.specs.Index.{index_of}
+use Rattle.mb_text.specs.Texts.{text_at}
+use Rattle.mb_world.specs.Arrays.{index_key}
+use Rattle.mb_world.specs.Image.{key_in, names_of}
 use Rattle.mb_world.specs.Value.{whole_text}
+use Rattle.mb_world.specs.Key.{Named, index_of_key}
+use Rattle.mb_world.specs.declared.cell.CellKind.TheVariants as kind
+use Rattle.mb_parts.proofs.ArrayLength.{array-length}
+use Rattle.mb_parts.proofs.ObjectChanged.{held-cell}
+use Rattle.mb_parts.proofs.ElementKeys.{index-is, index-key}
+use Rattle.mb_parts.proofs.HeldEach.{tells-apart}
 use Rattle.mb_eval_expr.proofs.elements.store_element.Goals as goal
 
 pub define_any-requires-clause-length : goal.define_any-requires-clause-length
@@ -55,13 +64,16 @@ returns-clause-stored c =
     let h = c.requires.holds in
     let q = held-cell d1 home kind.Array c.args.array (stays home d d1 g r h.0).sound in
     let text = c.in_ok-text.text in
-    let e : c.key-key.result ≡ k.Text text (index_of (text_at d1.texts text))
-    = c.key-key.ensures ∙ ap (λ (ts : List (List ℕ)). k.Text text (index_of (text_at ts text))) c.texts.ensures.value in
-    let named = c.in_ok-text.ensures.text ∙ ap whole_text (to_z_pos w64 c.args.place (let q = c.requires.place in omega (arith, q))) in
-    let spelled : key_in (names_of d1) c.key-key.result ≡ index_key c.args.place = ap (key_in (names_of d1)) e ∙ ap Named named in
+    let e : c.key-key.result ≡ k.Text text (index_of (text_at d1.texts text)) = c.key-key.ensures ∙ ap
+    (λ (ts : List (List ℕ)). k.Text text (index_of (text_at ts text))) c.texts.ensures.value in
+    let small : whole_text (to_z w64 c.args.place) ≡ whole_text (pos c.args.place)
+    = ap whole_text (to_z_pos w64 c.args.place (omega (arith, c.requires.place))) in
+    let spelled : key_in (names_of d1) c.key-key.result ≡ index_key c.args.place = ap (key_in (names_of d1)) e
+    ∙ ap Named (c.in_ok-text.ensures.text ∙ small) in
     let index : index_of_key (key_in (names_of d1) c.key-key.result) ≡ Some c.args.place
     = ap (λ (y : Key). index_of_key (key_in (names_of d1) y)) e
-    ∙ index-key d1 text c.args.place (c.in_ok-text.ensures.within, refl) c.requires.place named in
+    ∙ index-key d1 text c.args.place (c.in_ok-text.ensures.within, refl) c.requires.place
+    (c.in_ok-text.ensures.text ∙ small) in
     let ensures = rw c.open_desc.ensures at c.in_ok-define_any.ensures in (
       _,
       then-stored d d1 d2 home.0 c.args.array c.args.place c.args.x _ c.in_ok-text.ensures.grew h.0.within h.1.0.within
@@ -88,29 +100,41 @@ returns-in_err-text-clause-keeps c =
 
 pub returns-in_err-define_any-clause-keeps : goal.returns-in_err-define_any-clause-keeps
 returns-in_err-define_any-clause-keeps c =
-    halted-changed c.args.home (HeldArray c.args.array ∷ HeldValue c.args.x ∷ []) none_held
-    c.from_residual-in_err-define_any.result c.from_residual-in_err-define_any.ensures.0 c.args.w.now c.define_any.new.w
-    (λ r i h. rw c.in_err-define_any.ensures.kept
-    (texts-changed c.args.home c.args.w.now c.digits.new.w c.in_ok-text.ensures.grew r))
+    let q = c.from_residual-in_err-define_any in
+    halted-changed c.args.home (HeldArray c.args.array ∷ HeldValue c.args.x ∷ []) none_held q.result q.ensures.0
+    c.args.w.now
+    c.define_any.new.w
+    (λ r i h. rw c.in_err-define_any.ensures.kept (texts-changed c.args.home c.args.w.now c.digits.new.w
+    c.in_ok-text.ensures.grew r))
 
 pub returns-clause-keeps : goal.returns-clause-keeps
 returns-clause-keeps c = λ r i h.
     let d = c.args.w.now in
     let d1 : Data = c.digits.new.w in
     let d2 : Data = c.define_any.new.w in
-    let o = c.args.home in
+    let home = c.args.home in
+    let g = texts-changed home d d1 c.in_ok-text.ensures.grew r in
+    let o = stays home d d1 g r h.0 in
+    let x = stays home d d1 g r h.1.0 in
+    let q = held-cell d1 home kind.Array c.args.array o.sound in
     let text = c.in_ok-text.text in
-    let g : Changed o d d1 = texts-changed o d d1 c.in_ok-text.ensures.grew r in
-    let named = c.in_ok-text.ensures.text ∙ ap whole_text (to_z_pos w64 c.args.place (let q = c.requires.place in omega (arith, q))) in
-    let spelled = ap (key_in (names_of d1)) c.key-key.ensures ∙ ap Named named in
-    let index = ap (λ (y : Key). index_of_key (key_in (names_of d1) y)) c.key-key.ensures
-    ∙ index-key d1 text c.args.place (c.in_ok-text.ensures.within, refl) c.requires.place named in
-    record {
-      changed = changed-then o d d1 d2 g
-          (element-kept o d1 d2 c.args.array c.key-key.result c.args.x c.args.place c.cell.result.now g.ready (stays o d d1 g r h.0)
-          (stays o d d1 g r h.1.0) c.texts.ensures.distinct c.cell.ensures.value c.get-there.ensures.distinct c.requires.place
-          spelled index c.texts-texts.ensures.ids (rw c.open_desc.ensures at c.in_ok-define_any.ensures.cell)
-          c.in_ok-define_any.ensures.rest (rw c.open_desc.ensures at c.in_ok-define_any.ensures.unchanged)
-          (rw c.open_desc.ensures at c.in_ok-define_any.ensures.objects));
-      holds = tt;
-    }
+    let place = c.args.place in
+    let small : whole_text (to_z w64 place) ≡ whole_text (pos place) = ap whole_text
+    (to_z_pos w64 place (omega (arith, c.requires.place))) in
+    let is : text_at d1.texts text ≡ whole_text (pos place) = c.in_ok-text.ensures.text ∙ small in
+    let e : c.key-key.result ≡ k.Text text (index_of (text_at d1.texts text))
+    = c.key-key.ensures ∙ ap (λ (ts : List (List ℕ)). k.Text text (index_of (text_at ts text))) c.texts.ensures.value in
+    let ii : index_of (text_at d1.texts text) ≡ place = index-is d1 text place c.requires.place is in
+    let key : c.key-key.result ≡ k.Text text place = e ∙ ap (k.Text text) ii in
+    let kin : KeyIn d1 (k.Text text place) = (c.in_ok-text.ensures.within, sym ii) in
+    let cell : c.cell.result.now ≡ q.0 = (let z = c.cell.ensures.value in let y = q.1 in cc) in
+    let distinct = subst (λ (y : Cell). IsDistinct same_key (keys_of y.props)) cell c.get-there.ensures.distinct in
+    let index : index_of_key (key_in (names_of d1) (k.Text text place)) ≡ Some place
+    = ap (λ (n : ℕ). index_of_key (key_in (names_of d1) (k.Text text n))) (sym ii)
+    ∙ index-key d1 text place (c.in_ok-text.ensures.within, refl) c.requires.place is in
+    let ensures = rw (c.open_desc.ensures, key) at c.in_ok-define_any.ensures in
+    let u = element-changed d1 g.ready home c.args.array q.0 c.texts.ensures.distinct q.1 q.3 q.2 distinct text place
+    c.args.x kin o x
+    (ap Named is) c.requires.place index d2 ensures.cell ensures.rest ensures.unchanged ensures.objects
+    c.texts-texts.ensures.ids in
+    record { changed = changed-then home d d1 d2 g u; holds = tt }

@@ -1,7 +1,6 @@
-use Rattle.std.proofs.Common.{None, Option, Some, [], ap, false, List, ℕ, sym, ◌∙◌}
-use Rattle.mb_eval_expr.proofs.Writing.{Acts-texts, Grew-texts}
+use Rattle.std.proofs.Common.{None, Some, [], ap, false, List, ℕ, sym, ◌∙◌}
+use Rattle.mb_parts.proofs.Writing.{Acts-texts, Grew-texts}
 use Rattle.mb_frames.proofs.Passed.{Part-passed, Passes-texts}
-use Rattle.mb_frames.specs.Resolved.{label_in}
 use Rattle.mb_model.specs.Meaning.{finished}
 use Rattle.mb_model.specs.Nodes.Scopes.{code}
 use Rattle.mb_model.specs.Operations.Makings.{make_function}
@@ -9,12 +8,12 @@ use Rattle.mb_model.specs.Writing.{◌>>=◌, is_value}
 use Rattle.mb_world.proofs.Images.{value-grows}
 use Rattle.mb_world.proofs.Grow.{ValueIn-grows}
 use Rattle.mb_world.specs.Data.{Data}
-use Rattle.mb_world.specs.Image.{Image, Resolve, code_in, names_of, text_in}
+use Rattle.mb_world.specs.Image.{Image, Resolve, names_of, text_in}
 use Rattle.mb_world.specs.Value.{Val}
 use Rattle.std.proofs.lemmas.Result.{err_from_is_err_and}
-use Rattle.mb_eval_expr.proofs.Keeping.{kept-halted, kept-now, kept-still, kept-then, stays, text-held}
-use Rattle.mb_eval_expr.proofs.Texting.{texts-changed}
-use Rattle.mb_frames.proofs.HeldLess.{text-if-held}
+use Rattle.mb_eval_expr.proofs.Keeping.{kept-still, kept-then, stays}
+use Rattle.mb_parts.proofs.Texting.{texts-changed}
+use Rattle.mb_frames.proofs.HeldLess.{text-if-held, text-held}
 use Rattle.mb_frames.proofs.Keeping.{inside-still}
 use Rattle.mb_eval_expr.proofs.functions.arrow_row.Goals as goal
 
@@ -27,7 +26,8 @@ made-requires-clause-scope c = rw c.in_ok-name.ensures.grew.texts c.requires.at.
 
 pub made-requires-clause-this : goal.made-requires-clause-this
 made-requires-clause-this c =
-    ValueIn-grows c.args.w.now c.word.new.w (Grew-texts c.args.w.now c.word.new.w c.in_ok-name.ensures.grew).grows c.args.at.this c.requires.at.1
+    ValueIn-grows c.args.w.now c.word.new.w (Grew-texts c.args.w.now c.word.new.w c.in_ok-name.ensures.grew).grows
+    c.args.at.this c.requires.at.1
 
 pub returns-clause-row : goal.returns-clause-row
 returns-clause-row c = λ f.
@@ -36,14 +36,16 @@ returns-clause-row c = λ f.
     let t = c.in_ok-name.ensures.grew in
     let s = c.args.home.0 in
     let k = code s c.args.node.0 c.args.at.scope.0 false in
-    let p = (make_function (k (Some (Resolve (names_of d) c.args.at.this))) None c.args.params [] >>= is_value) finished in
+    let p = (make_function (k (Some (Resolve (names_of d) c.args.at.this))) None c.args.params [] >>= is_value)
+    finished in
     let q = (make_function (k (Some (Resolve (names_of d') c.args.at.this))) None c.args.params
     (text_in (names_of d') c.in_ok-name.name) >>= is_value) finished in
     Part-passed c.args.home c.made.result d d' c.made.new.w f f f p q
     (Passes-texts d d' f p q t
     (λ log. ap (λ (v : Val). (make_function (k (Some v)) None c.args.params [] >>= is_value) finished (Image d log))
     (sym (value-grows d d' (Grew-texts d d' t).grows c.args.at.this c.requires.at.1))
-    ∙ ap (λ (x : List ℕ). (make_function (k (Some (Resolve (names_of d') c.args.at.this))) None c.args.params x >>= is_value) finished (Image d log))
+    ∙ ap (λ (x : List ℕ). (make_function (k (Some (Resolve (names_of d') c.args.at.this))) None c.args.params x >>=
+    is_value) finished (Image d log))
     (sym c.in_ok-name.ensures.text)))
     (c.made.ensures.row f)
 

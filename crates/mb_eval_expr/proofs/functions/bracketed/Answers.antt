@@ -1,8 +1,7 @@
-use Rattle.std.proofs.Common.{◌++◌, ◌≡◌, ◌∙◌, ◌∷◌, List, Some, [], ap, arith, length, length-append, sym, ℕ}
-use Rattle.std.proofs.lemmas.Result.{err_from_is_err_and}
+use Rattle.std.proofs.Common.{◌++◌, ◌≡◌, ◌∙◌, ◌∷◌, List, Some, [], ap, arith, length, length-append, ℕ}
 use Rattle.mb_eval_expr.proofs.Joining.{TextsGrew-then}
 use Rattle.mb_eval_expr.proofs.Spelling.{If-before}
-use Rattle.mb_eval_expr.proofs.Writing.{TextsGrew-same}
+use Rattle.mb_parts.proofs.Writing.{TextsGrew-same}
 use Rattle.mb_world.proofs.Grow.{TextIn-grows}
 use Rattle.mb_world.specs.Image.{names_of, text_in}
 use Rattle.mb_world.specs.Symbols.{bracketed}
@@ -34,7 +33,8 @@ returns-in_ok-close-in-Some-clause-name c =
     let close = c.in_ok-close-in-Some.close in
     let h = rw c.in-Some.is at c.in_ok-half.ensures.name in
     let x : List ℕ = text_in (names_of d) c.args.text in
-    let e1 : text_in (names_of d1) c.args.text ≡ x = c.in_ok-open.ensures.grew.becomes.grows.same_text c.args.text c.requires.text in
+    let e1 : text_in (names_of d1) c.args.text ≡ x = c.in_ok-open.ensures.grew.becomes.grows.same_text c.args.text
+    c.requires.text in
     let e2 : text_in (names_of d2) half ≡ (91 ∷ []) ++ x
     = h.1 [] ∙ ap (λ (y : List ℕ). y ++ text_in (names_of d1) c.args.text) c.in_ok-open.ensures.text
     ∙ ap (λ (y : List ℕ). (91 ∷ []) ++ y) e1 in
@@ -60,7 +60,8 @@ returns-in-None-clause-name c = λ log.
     let d1 = c.word.new.w in
     let h = rw c.in-None.is at c.in_ok-half.ensures.name in
     let x : List ℕ = text_in (names_of d) c.args.text in
-    let e1 : text_in (names_of d1) c.args.text ≡ x = c.in_ok-open.ensures.grew.becomes.grows.same_text c.args.text c.requires.text in
+    let e1 : text_in (names_of d1) c.args.text ≡ x = c.in_ok-open.ensures.grew.becomes.grows.same_text c.args.text
+    c.requires.text in
     let e2 : text_in (names_of d1) c.in_ok-open.open ++ text_in (names_of d1) c.args.text ≡ (91 ∷ []) ++ x
     = ap (λ (y : List ℕ). y ++ text_in (names_of d1) c.args.text) c.in_ok-open.ensures.text
     ∙ ap (λ (y : List ℕ). (91 ∷ []) ++ y) e1 in

@@ -1,9 +1,9 @@
-use Rattle.std.proofs.Common.{◌+◌, ◌≡◌, ◌∙◌, refl, List, None, Ok, Some, [], ap, arith, length, sym, true, ℕ}
+use Rattle.std.proofs.Common.{◌+◌, ◌≡◌, ◌∙◌, refl, List, None, Some, [], ap, arith, length, sym, true, ℕ}
 use Rattle.std.proofs.lemmas.Result.{err_from_is_err_and}
-use Rattle.mb_eval_expr.proofs.Writing.{Acts-texts}
+use Rattle.mb_parts.proofs.Writing.{Acts-texts}
 use Rattle.mb_eval_expr.specs.machine.Functions.{named_row}
 use Rattle.mb_frames.proofs.Passed.{Part-by, Part-passed, Part-unpaid, Passes-paid, Passes-texts}
-use Rattle.mb_frames.specs.Resolved.{context_in, label_in}
+use Rattle.mb_frames.specs.Resolved.{context_in}
 use Rattle.mb_frames.specs.Stepping.{charged_by}
 use Rattle.mb_model.specs.Meaning.{finished}
 use Rattle.mb_model.specs.Nodes.Literals.{function_row}
@@ -12,9 +12,9 @@ use Rattle.mb_model.specs.Operations.Makings.{make_function}
 use Rattle.mb_model.specs.Writing.{◌>>=◌, is_value}
 use Rattle.mb_world.specs.Data.{Data}
 use Rattle.mb_world.specs.Image.{Image, names_of, text_in}
-use Rattle.mb_eval_expr.proofs.Keeping.{kept-halted, kept-now, kept-still, kept-then, stays, text-held}
-use Rattle.mb_eval_expr.proofs.Texting.{texts-changed}
-use Rattle.mb_frames.proofs.HeldLess.{text-if-held}
+use Rattle.mb_eval_expr.proofs.Keeping.{kept-still, kept-then, stays}
+use Rattle.mb_parts.proofs.Texting.{texts-changed}
+use Rattle.mb_frames.proofs.HeldLess.{text-if-held, text-held}
 use Rattle.mb_frames.proofs.Keeping.{inside-still}
 use Rattle.mb_eval_expr.proofs.functions.function_row.Goals as goal
 
@@ -48,7 +48,8 @@ returns-in_ok-charge-in-Some-clause-row c = λ parts e.
     let u : k + 1 ≡ f = omega (arith, c.in_ok-charge-in-Some.ensures.paid) in
     rw c.in-Some.is
     (Part-by home c.named_function.result d c.named_function.new.w f k p (charged_by 1 q)
-    (λ log. ap (λ (m : ℕ). charged_by 1 (named_row home.0 c.args.at.scope.0 c.args.node.0 m x finished) (Image d log)) e)
+    (λ log. ap (λ (m : ℕ). charged_by 1 (named_row home.0 c.args.at.scope.0 c.args.node.0 m x finished)
+    (Image d log)) e)
     (Part-passed home c.named_function.result d d c.named_function.new.w f k k (charged_by 1 q) q
     (Passes-paid d 1 f k q u) (c.named_function.ensures.row k)))
 
@@ -61,7 +62,8 @@ returns-in_ok-name-in-None-clause-row c = λ parts e.
     let s = c.args.home.0 in
     let k = code s c.args.node.0 c.args.at.scope.0 true None in
     let p = function_row (context_in (names_of d) s c.args.at) c.args.node.0 parts None finished in
-    let q = (make_function k None c.args.params (text_in (names_of d') c.in_ok-name-in-None.name) >>= is_value) finished in
+    let q = (make_function k None c.args.params (text_in (names_of d') c.in_ok-name-in-None.name) >>= is_value)
+    finished in
     rw c.in-None.is
     (Part-passed c.args.home c.made.result d d' c.made.new.w f f f p q
     (Passes-texts d d' f p q t

@@ -1,6 +1,6 @@
 use Rattle.std.proofs.Common.{◌++◌, ap, arith, length, refl}
 use Rattle.mb_eval_expr.proofs.Spelling.{not-long}
-use Rattle.mb_eval_expr.proofs.Writing.{TextsGrew-same, TextsGrew-text, text-is, text-within}
+use Rattle.mb_parts.proofs.Writing.{TextsGrew-same, TextsGrew-text, text-is, text-within}
 use Rattle.mb_world.specs.Image.{names_of, text_in}
 use Rattle.mb_eval_expr.proofs.functions.joined.Goals as goal
 

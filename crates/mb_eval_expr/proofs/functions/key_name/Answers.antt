@@ -1,12 +1,13 @@
-use Rattle.std.proofs.Common.{None, Some, ap, refl, sym, ◌∙◌}
+use Rattle.std.proofs.Common.{None, Some, ap, sym, ◌∙◌}
 use Rattle.mb_eval_expr.proofs.Spelling.{If-before, described}
-use Rattle.mb_eval_expr.proofs.Writing.{TextsGrew-same}
+use Rattle.mb_parts.proofs.Writing.{TextsGrew-same}
 use Rattle.mb_world.specs.Image.{names_of, text_in}
 use Rattle.mb_world.specs.Symbols.{bracketed, description}
 use Rattle.mb_eval_expr.proofs.functions.key_name.Goals as goal
 
 pub returns-in_err-text-in-None-clause-grew : goal.returns-in_err-text-in-None-clause-grew
-returns-in_err-text-in-None-clause-grew c = rw c.in_err-text-in-None.ensures.kept (TextsGrew-same c.args.w.now c.requires.ids)
+returns-in_err-text-in-None-clause-grew c = rw c.in_err-text-in-None.ensures.kept
+    (TextsGrew-same c.args.w.now c.requires.ids)
 
 pub returns-in-Some-clause-name : goal.returns-in-Some-clause-name
 returns-in-Some-clause-name c =
@@ -24,5 +25,6 @@ returns-in_ok-text-in-None-clause-name c =
     let i = rw c.in-Symbol.is at c.requires.key in
     rw c.in-Symbol.is (
       c.in_ok-text-in-None.ensures.within,
-      λ log. c.in_ok-text-in-None.ensures.text ∙ ap bracketed (sym (described d c.in-Symbol.symbol None log i c.in-None.ensures)),
+      λ log. c.in_ok-text-in-None.ensures.text ∙ ap bracketed
+          (sym (described d c.in-Symbol.symbol None log i c.in-None.ensures)),
     )

@@ -1,18 +1,18 @@
-use Rattle.std.proofs.Common.{List, None, Some, [], ap, false, subst, sym, ℕ, ◌∷◌}
-use Rattle.mb_eval_expr.proofs.Keeping.{stays, text-held}
+use Rattle.std.proofs.Common.{None, false, subst, sym, ℕ}
+use Rattle.mb_eval_expr.proofs.Keeping.{stays}
 use Rattle.mb_eval_expr.proofs.Spelling.{keyed-made, too-long}
-use Rattle.mb_eval_expr.proofs.Texting.{texts-changed}
+use Rattle.mb_parts.proofs.Texting.{texts-changed}
 use Rattle.mb_frames.proofs.Forms.{ready-runs}
-use Rattle.mb_frames.proofs.HeldLess.{text-if-held}
+use Rattle.mb_frames.proofs.HeldLess.{text-if-held, text-held}
 use Rattle.mb_frames.proofs.Keeping.{inside-still}
-use Rattle.mb_frames.proofs.Readying.{changed-same, changed-then}
+use Rattle.mb_frames.proofs.Readying.{changed-then}
 use Rattle.mb_frames.specs.Making.{code_held}
 use Rattle.mb_frames.specs.Ready.{Holds}
 use Rattle.mb_world.specs.Image.{code_in, key_in, names_of, object_in, text_in}
 use Rattle.mb_frames.specs.Going.{WentOn}
 use Rattle.mb_model.specs.Operations.Makings.{make_function}
 use Rattle.mb_world.specs.Value.{Val}
-use Rattle.mb_eval_expr.proofs.Steadying.{ready-acts}
+use Rattle.mb_parts.proofs.Acting.{ready-acts}
 use Rattle.mb_eval_expr.proofs.Fresh.{Acts-prototypes}
 use Rattle.mb_world.specs.declared.cell.Code.{Code}
 use Rattle.mb_eval_expr.proofs.functions.keyed_function.Goals as goal
@@ -39,10 +39,12 @@ pub make_function-requires-clause-scope : goal.make_function-requires-clause-sco
 make_function-requires-clause-scope c = rw c.full_name.ensures.grew.texts c.requires.at.0
 
 pub returns-in_err-name-clause-changed : goal.returns-in_err-name-clause-changed
-returns-in_err-name-clause-changed c = texts-changed c.args.home c.args.w.now c.full_name.new.w c.full_name.ensures.grew c.requires.ready
+returns-in_err-name-clause-changed c = texts-changed c.args.home c.args.w.now c.full_name.new.w
+    c.full_name.ensures.grew c.requires.ready
 
 pub returns-then-params-gt-MOST_PARAMS-clause-changed : goal.returns-then-params-gt-MOST_PARAMS-clause-changed
-returns-then-params-gt-MOST_PARAMS-clause-changed c = texts-changed c.args.home c.args.w.now c.full_name.new.w c.full_name.ensures.grew c.requires.ready
+returns-then-params-gt-MOST_PARAMS-clause-changed c = texts-changed c.args.home c.args.w.now c.full_name.new.w
+    c.full_name.ensures.grew c.requires.ready
 
 pub returns-in_err-function-in-Some-clause-changed : goal.returns-in_err-function-in-Some-clause-changed
 returns-in_err-function-in-Some-clause-changed c =
@@ -53,7 +55,13 @@ returns-in_err-function-in-Some-clause-changed c =
     let g = texts-changed home d d1 c.full_name.ensures.grew r in
     let i = inside-still home d d1 g c.requires.inside in
     let n = rw c.in-Some.is at c.in_ok-name.ensures.name in
-    let code : Code = record { side = home; node = c.args.node; scope = c.args.at.scope; constructs = false; bound_this = None } in
+    let code : Code = record {
+      side = home;
+      node = c.args.node;
+      scope = c.args.at.scope;
+      constructs = false;
+      bound_this = None;
+    } in
     let held : Holds d1 home (code_held code None c.in-Some.name)
     = (
       stays home d d1 g r c.requires.holds.1.0,
@@ -73,12 +81,19 @@ returns-in_ok-function-in-Some-clause-makes c = λ parts e.
     let d1 = c.full_name.new.w in
     let n = rw c.in-Some.is at c.in_ok-name.ensures.name in
     let short = rw c.in-Some.is at c.in_ok-name.ensures.short in
-    let code : Code = record { side = c.args.home; node = c.args.node; scope = c.args.at.scope; constructs = false; bound_this = None } in
+    let code : Code = record {
+      side = c.args.home;
+      node = c.args.node;
+      scope = c.args.at.scope;
+      constructs = false;
+      bound_this = None;
+    } in
     keyed-made c.args.home d d1 c.make_function.new.w c.args.at c.args.node parts c.args.prefix.now
     (key_in (names_of d) c.args.key) c.full_name.ensures.grew c.in-Some.name c.in_ok-function-in-Some.function n short
     (subst (λ (m : ℕ). WentOn Val d1 c.make_function.new.w 0 0
     (make_function (code_in (names_of d1) code) None m (text_in (names_of d1) c.in-Some.name))
-    (object_in (names_of c.make_function.new.w) c.in_ok-function-in-Some.function)) (sym e) c.in_ok-function-in-Some.ensures.makes)
+    (object_in (names_of c.make_function.new.w) c.in_ok-function-in-Some.function))
+    (sym e) c.in_ok-function-in-Some.ensures.makes)
 
 pub returns-in_ok-function-in-Some-clause-changed : goal.returns-in_ok-function-in-Some-clause-changed
 returns-in_ok-function-in-Some-clause-changed c =
@@ -89,7 +104,13 @@ returns-in_ok-function-in-Some-clause-changed c =
     let g = texts-changed home d d1 c.full_name.ensures.grew r in
     let i = inside-still home d d1 g c.requires.inside in
     let n = rw c.in-Some.is at c.in_ok-name.ensures.name in
-    let code : Code = record { side = home; node = c.args.node; scope = c.args.at.scope; constructs = false; bound_this = None } in
+    let code : Code = record {
+      side = home;
+      node = c.args.node;
+      scope = c.args.at.scope;
+      constructs = false;
+      bound_this = None;
+    } in
     let held : Holds d1 home (code_held code None c.in-Some.name)
     = (
       stays home d d1 g r c.requires.holds.1.0,
@@ -112,7 +133,13 @@ returns-in_ok-function-in-Some-clause-holds c =
     let g = texts-changed home d d1 c.full_name.ensures.grew r in
     let i = inside-still home d d1 g c.requires.inside in
     let n = rw c.in-Some.is at c.in_ok-name.ensures.name in
-    let code : Code = record { side = home; node = c.args.node; scope = c.args.at.scope; constructs = false; bound_this = None } in
+    let code : Code = record {
+      side = home;
+      node = c.args.node;
+      scope = c.args.at.scope;
+      constructs = false;
+      bound_this = None;
+    } in
     let held : Holds d1 home (code_held code None c.in-Some.name)
     = (
       stays home d d1 g r c.requires.holds.1.0,
@@ -133,4 +160,5 @@ returns-in-None-clause-makes c = λ parts e.
     (key_in (names_of d) c.args.key) c.full_name.ensures.grew (rw c.in-None.is at c.in_ok-name.ensures.name)
 
 pub returns-in-None-clause-changed : goal.returns-in-None-clause-changed
-returns-in-None-clause-changed c = texts-changed c.args.home c.args.w.now c.full_name.new.w c.full_name.ensures.grew c.requires.ready
+returns-in-None-clause-changed c = texts-changed c.args.home c.args.w.now c.full_name.new.w c.full_name.ensures.grew
+    c.requires.ready

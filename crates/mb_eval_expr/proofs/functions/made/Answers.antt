@@ -35,7 +35,8 @@ returns-then-params-gt-MOST_PARAMS-clause-keeps c = λ r i h. kept-still c.args.
 pub returns-in_err-function-clause-keeps : goal.returns-in_err-function-clause-keeps
 returns-in_err-function-clause-keeps c = λ r i h.
     let p = err_from_is_err_and c.from_residual.result c.from_residual.ensures.1 in
-    rw p.1 (kept-halted c.args.code.side c.args.w.now c.make_function.new.w (c.in_err-function.ensures.keeps r i h).changed)
+    rw p.1 (kept-halted c.args.code.side c.args.w.now c.make_function.new.w
+    (c.in_err-function.ensures.keeps r i h).changed)
 
 pub returns-clause-keeps : goal.returns-clause-keeps
 returns-clause-keeps c = λ r i h.

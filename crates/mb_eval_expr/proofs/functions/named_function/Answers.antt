@@ -13,11 +13,10 @@ use Rattle.mb_world.specs.declared.cell.Code.{Code}
 use Rattle.mb_world.specs.declared.scope.Bound.{Bound}
 use Rattle.mb_world.specs.declared.scope.Scope.{Scope}
 use Rattle.std.proofs.lemmas.Result.{err_from_is_err_and}
-use Rattle.mb_eval_expr.proofs.Keeping.{kept-halted, kept-now, kept-still, kept-then, stays, text-held}
-use Rattle.mb_eval_expr.proofs.Texting.{texts-changed}
+use Rattle.mb_eval_expr.proofs.Keeping.{kept-halted, kept-now, kept-still, stays}
 use Rattle.mb_frames.proofs.HeldLess.{text-if-held}
 use Rattle.mb_frames.proofs.Keeping.{inside-still}
-use Rattle.mb_eval_expr.proofs.Entering.{scope-kept}
+use Rattle.mb_eval_expr.proofs.Scoping.{scope-kept}
 use Rattle.mb_frames.proofs.Readying.{changed-then}
 use Rattle.mb_eval_expr.proofs.functions.named_function.Goals as goal
 
@@ -34,16 +33,19 @@ add_scope-requires c =
 pub make_function-requires-clause-world : goal.make_function-requires-clause-world
 make_function-requires-clause-world c =
     CanRun-grows c.args.w.now c.add_scope.new.self c.args.home
-    (Grew-scope c.args.w.now c.add_scope.new.self _ c.in_ok-scope.ensures.added) c.texts-scoped.ensures.ids c.requires.acts.runs
+    (Grew-scope c.args.w.now c.add_scope.new.self _ c.in_ok-scope.ensures.added) c.texts-scoped.ensures.ids
+    c.requires.acts.runs
 
 pub make_function-requires-clause-built_ins : goal.make_function-requires-clause-built_ins
 make_function-requires-clause-built_ins c =
     Acts-prototypes c.add_scope.new.self c.args.home
-    (Acts-scope c.args.w.now c.add_scope.new.self _ c.in_ok-scope.ensures.added c.args.home c.texts-scoped.ensures.ids c.requires.acts)
+    (Acts-scope c.args.w.now c.add_scope.new.self _ c.in_ok-scope.ensures.added c.args.home
+    c.texts-scoped.ensures.ids c.requires.acts)
 
 pub make_function-requires-clause-scope : goal.make_function-requires-clause-scope
 make_function-requires-clause-scope c =
-    scope-in c.args.w.now c.add_scope.new.self _ c.in_ok-scope.ensures.added c.in_ok-scope.scope c.in_ok-scope.ensures.id
+    scope-in c.args.w.now c.add_scope.new.self _ c.in_ok-scope.ensures.added c.in_ok-scope.scope
+    c.in_ok-scope.ensures.id
 
 pub make_function-requires-clause-label : goal.make_function-requires-clause-label
 make_function-requires-clause-label c = rw c.in_ok-scope.ensures.added c.requires.name
@@ -53,8 +55,10 @@ make_function-requires-clause-name c = rw c.in_ok-scope.ensures.added c.requires
 
 pub initialize-requires-clause-scope : goal.initialize-requires-clause-scope
 initialize-requires-clause-scope c =
-    ScopeIn-grows c.add_scope.new.self c.make_function.new.w c.in_ok-function.ensures.makes.grew.grows c.in_ok-scope.scope
-    (scope-in c.args.w.now c.add_scope.new.self _ c.in_ok-scope.ensures.added c.in_ok-scope.scope c.in_ok-scope.ensures.id)
+    ScopeIn-grows c.add_scope.new.self c.make_function.new.w c.in_ok-function.ensures.makes.grew.grows
+    c.in_ok-scope.scope
+    (scope-in c.args.w.now c.add_scope.new.self _ c.in_ok-scope.ensures.added c.in_ok-scope.scope
+    c.in_ok-scope.ensures.id)
 
 pub initialize-requires-clause-name : goal.initialize-requires-clause-name
 initialize-requires-clause-name c =
@@ -71,10 +75,13 @@ returns-clause-row c = λ f.
     let s : Scope = record { home = c.args.home; parent = Some c.args.at.scope; names = c.push.new.self } in
     Part-named c.args.home d d1 d2 d3 f c.in_ok-scope.scope c.args.name c.args.at.scope.0 c.args.node.0 c.args.params
     c.in_ok-function.function c.value.result
-    (scope-added d d1 s (scope c.args.home.0 (Some c.args.at.scope.0) (binding (text_in (names_of d) c.args.name) None true ∷ []))
-    c.in_ok-scope.scope (rw (c.in_ok-push.ensures.pushed, c.new-names.ensures) refl) c.in_ok-scope.ensures.added c.in_ok-scope.ensures.id)
+    (scope-added d d1 s (scope c.args.home.0 (Some c.args.at.scope.0)
+    (binding (text_in (names_of d) c.args.name) None true ∷ []))
+    c.in_ok-scope.scope (rw (c.in_ok-push.ensures.pushed, c.new-names.ensures) refl) c.in_ok-scope.ensures.added
+    c.in_ok-scope.ensures.id)
     c.requires.name c.in_ok-function.ensures.makes c.in_ok-initialize.ensures.changes c.in_ok-function.ensures.made
-    (c.value.ensures.row c.args.home d3 (ObjIn-grows d2 d3 c.in_ok-initialize.ensures.changes.grew.grows c.in_ok-function.function c.in_ok-function.ensures.made))
+    (c.value.ensures.row c.args.home d3 (ObjIn-grows d2 d3 c.in_ok-initialize.ensures.changes.grew.grows
+    c.in_ok-function.function c.in_ok-function.ensures.made))
 
 pub returns-then-params-gt-MOST_PARAMS-clause-keeps : goal.returns-then-params-gt-MOST_PARAMS-clause-keeps
 returns-then-params-gt-MOST_PARAMS-clause-keeps c = λ r i h. kept-still c.args.home c.args.w.now r
@@ -95,10 +102,18 @@ returns-in_err-function-clause-keeps c = λ r i h.
     let d = c.args.w.now in
     let d1 = c.add_scope.new.self in
     let home = c.args.home in
-    let g = scope-kept d d1 home c.args.at.scope c.args.name c.push.new.self c.in_ok-scope.scope r i h.1.1.0 c.requires.name
-    (rw (c.in_ok-push.ensures.pushed, c.new-names.ensures) refl) c.requires.acts.side c.in_ok-scope.ensures.added c.in_ok-scope.ensures.id in
+    let g = scope-kept d d1 home c.args.at.scope c.args.name c.push.new.self c.in_ok-scope.scope r i h.1.1.0
+    c.requires.name
+    (rw (c.in_ok-push.ensures.pushed, c.new-names.ensures) refl) c.requires.acts.side c.in_ok-scope.ensures.added
+    c.in_ok-scope.ensures.id in
     let b = inside-still home d d1 g.changed i in
-    let code : Code = record { side = c.args.home; node = c.args.node; scope = c.in_ok-scope.scope; constructs = true; bound_this = None } in
+    let code : Code = record {
+      side = c.args.home;
+      node = c.args.node;
+      scope = c.in_ok-scope.scope;
+      constructs = true;
+      bound_this = None;
+    } in
     let held : Holds d1 home (code_held code (Some c.args.name) c.args.name) = (
       g.holds.0,
       (
@@ -119,10 +134,18 @@ returns-in_err-initialize-clause-keeps c = λ r i h.
     let d = c.args.w.now in
     let d1 = c.add_scope.new.self in
     let home = c.args.home in
-    let g = scope-kept d d1 home c.args.at.scope c.args.name c.push.new.self c.in_ok-scope.scope r i h.1.1.0 c.requires.name
-    (rw (c.in_ok-push.ensures.pushed, c.new-names.ensures) refl) c.requires.acts.side c.in_ok-scope.ensures.added c.in_ok-scope.ensures.id in
+    let g = scope-kept d d1 home c.args.at.scope c.args.name c.push.new.self c.in_ok-scope.scope r i h.1.1.0
+    c.requires.name
+    (rw (c.in_ok-push.ensures.pushed, c.new-names.ensures) refl) c.requires.acts.side c.in_ok-scope.ensures.added
+    c.in_ok-scope.ensures.id in
     let b = inside-still home d d1 g.changed i in
-    let code : Code = record { side = c.args.home; node = c.args.node; scope = c.in_ok-scope.scope; constructs = true; bound_this = None } in
+    let code : Code = record {
+      side = c.args.home;
+      node = c.args.node;
+      scope = c.in_ok-scope.scope;
+      constructs = true;
+      bound_this = None;
+    } in
     let held : Holds d1 home (code_held code (Some c.args.name) c.args.name) = (
       g.holds.0,
       (
@@ -137,20 +160,34 @@ returns-in_err-initialize-clause-keeps c = λ r i h.
     let q = c.from_residual-in_err-initialize in
     let p = err_from_is_err_and q.result q.ensures.1 in
     let k = c.in_ok-function.ensures.keeps g.changed.ready b held in
-    let u = c.in_err-initialize.ensures.keeps home k.changed.ready (inside-still home d1 d2 k.changed b)
-    (stays home d1 d2 k.changed g.changed.ready g.holds.0, (stays home d1 d2 k.changed g.changed.ready held.1.1.1.0, (k.holds.0, tt))) in
+    let u = c.in_err-initialize.ensures.keeps home k.changed.ready (inside-still home d1 d2 k.changed b) (
+      stays home d1 d2 k.changed g.changed.ready g.holds.0,
+      (
+        stays home d1 d2 k.changed g.changed.ready held.1.1.1.0,
+        (k.holds.0, tt),
+      ),
+    ) in
     rw p.1 (kept-halted home d c.initialize.new.w
-    (changed-then home d d1 c.initialize.new.w g.changed (changed-then home d1 d2 c.initialize.new.w k.changed u.changed)))
+    (changed-then home d d1 c.initialize.new.w g.changed (changed-then home d1 d2 c.initialize.new.w k.changed
+    u.changed)))
 
 pub returns-clause-keeps : goal.returns-clause-keeps
 returns-clause-keeps c = λ r i h.
     let d = c.args.w.now in
     let d1 = c.add_scope.new.self in
     let home = c.args.home in
-    let g = scope-kept d d1 home c.args.at.scope c.args.name c.push.new.self c.in_ok-scope.scope r i h.1.1.0 c.requires.name
-    (rw (c.in_ok-push.ensures.pushed, c.new-names.ensures) refl) c.requires.acts.side c.in_ok-scope.ensures.added c.in_ok-scope.ensures.id in
+    let g = scope-kept d d1 home c.args.at.scope c.args.name c.push.new.self c.in_ok-scope.scope r i h.1.1.0
+    c.requires.name
+    (rw (c.in_ok-push.ensures.pushed, c.new-names.ensures) refl) c.requires.acts.side c.in_ok-scope.ensures.added
+    c.in_ok-scope.ensures.id in
     let b = inside-still home d d1 g.changed i in
-    let code : Code = record { side = c.args.home; node = c.args.node; scope = c.in_ok-scope.scope; constructs = true; bound_this = None } in
+    let code : Code = record {
+      side = c.args.home;
+      node = c.args.node;
+      scope = c.in_ok-scope.scope;
+      constructs = true;
+      bound_this = None;
+    } in
     let held : Holds d1 home (code_held code (Some c.args.name) c.args.name) = (
       g.holds.0,
       (
@@ -165,8 +202,13 @@ returns-clause-keeps c = λ r i h.
     let d3 = c.initialize.new.w in
     let k = c.in_ok-function.ensures.keeps g.changed.ready b held in
     let e = inside-still home d1 d2 k.changed b in
-    let u = c.in_ok-initialize.ensures.keeps home k.changed.ready e
-    (stays home d1 d2 k.changed g.changed.ready g.holds.0, (stays home d1 d2 k.changed g.changed.ready held.1.1.1.0, (k.holds.0, tt))) in
+    let u = c.in_ok-initialize.ensures.keeps home k.changed.ready e (
+      stays home d1 d2 k.changed g.changed.ready g.holds.0,
+      (
+        stays home d1 d2 k.changed g.changed.ready held.1.1.1.0,
+        (k.holds.0, tt),
+      ),
+    ) in
     kept-now home d d3 (changed-then home d d1 d3 g.changed (changed-then home d1 d2 d3 k.changed u.changed))
     (c.value.ensures.leaves home d3 u.changed.ready (inside-still home d2 d3 u.changed e)
     (stays home d2 d3 u.changed k.changed.ready k.holds.0, tt))

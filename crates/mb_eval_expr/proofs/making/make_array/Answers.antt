@@ -23,18 +23,22 @@ returns-clause-makes c =
     let proto : Value = c.built_in-prototype.result in
     let e : Data = made d c.args.home Array proto None in
     let g = (of-made d c.args.home Array proto None c.requires.ids refl).becomes.grows in
-    made-went d c.make.new.self c.args.home Array proto None c.in_ok-array.array c.requires.ids refl c.in_ok-array.ensures.made
+    made-went d c.make.new.self c.args.home Array proto None c.in_ok-array.array c.requires.ids refl
+    c.in_ok-array.ensures.made
     c.in_ok-array.ensures.id (array_thing c.args.home.0 array_prototype 0 [])
-    (array-thing d c.args.home proto array_prototype (value-grows d e g proto c.built_in-prototype.ensures.ids ∙ c.built_in-prototype.ensures.value))
+    (array-thing d c.args.home proto array_prototype (value-grows d e g proto c.built_in-prototype.ensures.ids
+    ∙ c.built_in-prototype.ensures.value))
 
 pub returns-clause-array : goal.returns-clause-array
 returns-clause-array c =
-    made-of-kind c.args.w.now c.make.new.self c.args.home Array c.built_in-prototype.result None c.in_ok-array.array c.requires.ids refl
+    made-of-kind c.args.w.now c.make.new.self c.args.home Array c.built_in-prototype.result None c.in_ok-array.array
+    c.requires.ids refl
     c.in_ok-array.ensures.made c.in_ok-array.ensures.id
 
 pub returns-clause-acts : goal.returns-clause-acts
 returns-clause-acts c =
-    Acts-made c.args.w.now c.make.new.self c.args.home Array c.built_in-prototype.result None c.in_ok-array.array c.requires.ids refl
+    Acts-made c.args.w.now c.make.new.self c.args.home Array c.built_in-prototype.result None c.in_ok-array.array
+    c.requires.ids refl
     c.in_ok-array.ensures.made c.in_ok-array.ensures.id c.texts-texts.ensures.ids c.requires
 
 pub returns-in_err-array-clause-keeps : goal.returns-in_err-array-clause-keeps
@@ -51,5 +55,8 @@ returns-clause-keeps c = λ r i h.
       changed = made-changed home d Array proto None r i
           (bare-may d home Array proto refl tt tt c.built_in-prototype.ensures.held (All-nil InRange)
           (λ u. All-nil (IsOwn d home)));
-      holds = ((made-held d home Array proto None c.in_ok-array.array refl c.in_ok-array.ensures.id).array refl refl, tt);
+      holds = (
+        (made-held d home Array proto None c.in_ok-array.array refl c.in_ok-array.ensures.id).array refl refl,
+        tt,
+      );
     })

@@ -24,18 +24,22 @@ returns-clause-makes c =
     let proto : Value = c.built_in-prototype.result in
     let e : Data = made d c.args.home Plain proto None in
     let g = (of-made d c.args.home Plain proto None c.requires.ids refl).becomes.grows in
-    made-went d c.make.new.self c.args.home Plain proto None c.in_ok-object.object c.requires.ids refl c.in_ok-object.ensures.made
+    made-went d c.make.new.self c.args.home Plain proto None c.in_ok-object.object c.requires.ids refl
+    c.in_ok-object.ensures.made
     c.in_ok-object.ensures.id (new_thing c.args.home.0 None GraphPlain object_prototype)
-    (plain-thing d c.args.home proto object_prototype (value-grows d e g proto c.built_in-prototype.ensures.ids ∙ c.built_in-prototype.ensures.value))
+    (plain-thing d c.args.home proto object_prototype (value-grows d e g proto c.built_in-prototype.ensures.ids
+    ∙ c.built_in-prototype.ensures.value))
 
 pub returns-clause-object : goal.returns-clause-object
 returns-clause-object c =
-    made-of-kind c.args.w.now c.make.new.self c.args.home Plain c.built_in-prototype.result None c.in_ok-object.object c.requires.ids refl
+    made-of-kind c.args.w.now c.make.new.self c.args.home Plain c.built_in-prototype.result None
+    c.in_ok-object.object c.requires.ids refl
     c.in_ok-object.ensures.made c.in_ok-object.ensures.id
 
 pub returns-clause-acts : goal.returns-clause-acts
 returns-clause-acts c =
-    Acts-made c.args.w.now c.make.new.self c.args.home Plain c.built_in-prototype.result None c.in_ok-object.object c.requires.ids refl
+    Acts-made c.args.w.now c.make.new.self c.args.home Plain c.built_in-prototype.result None c.in_ok-object.object
+    c.requires.ids refl
     c.in_ok-object.ensures.made c.in_ok-object.ensures.id c.texts-texts.ensures.ids c.requires
 
 pub returns-in_err-object-clause-keeps : goal.returns-in_err-object-clause-keeps
@@ -52,5 +56,9 @@ returns-clause-keeps c = λ r i h.
       changed = made-changed home d Plain proto None r i
           (bare-may d home Plain proto refl tt tt c.built_in-prototype.ensures.held (All-nil InRange)
           (λ u. All-nil (IsOwn d home)));
-      holds = ((made-held d home Plain proto None c.in_ok-object.object refl c.in_ok-object.ensures.id).plain refl refl, tt);
+      holds = (
+        (made-held d home Plain proto None c.in_ok-object.object refl c.in_ok-object.ensures.id).plain refl
+            refl,
+        tt,
+      );
     })

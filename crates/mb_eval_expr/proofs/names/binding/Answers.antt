@@ -3,7 +3,7 @@ use Rattle.mb_eval_expr.proofs.Binding.{binding-held}
 use Rattle.mb_eval_expr.proofs.Naming.{at-place, binding-is}
 use Rattle.mb_model.specs.Nodes.Scopes.{binding_at}
 use Rattle.std.specs.Prelude.{All}
-use Rattle.mb_eval_expr.specs.machine.Standing.{IsReal}
+use Rattle.mb_frames.specs.Real.{IsReal}
 use Rattle.mb_world.proofs.Grow.{All-at}
 use Rattle.mb_world.specs.declared.scope.Bound.{Bound}
 use Rattle.mb_world.specs.Ids.{BoundIn, Maybe}
@@ -19,7 +19,8 @@ returns-in-Some-clause-value c = λ log.
 
 pub returns-in-Some-clause-within : goal.returns-in-Some-clause-within
 returns-in-Some-clause-within c =
-    rw c.at.ensures (at-place (BoundIn c.args.w.now) c.scope.result.now.names c.in-Some.place c.scope.ensures.within.names_in)
+    rw c.at.ensures (at-place (BoundIn c.args.w.now) c.scope.result.now.names c.in-Some.place
+    c.scope.ensures.within.names_in)
 
 pub returns-in-None-clause-value : goal.returns-in-None-clause-value
 returns-in-None-clause-value c = λ log. ap (binding_at (Image c.args.w.now log)) (c.in-None.ensures.place log)

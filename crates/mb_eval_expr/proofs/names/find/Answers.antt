@@ -18,7 +18,8 @@ returns-in-Some-clause-place c = λ log.
     let here : position (has_name c.args.name) c.scope-here.result.now.names ≡ Some c.in-Some.place
     = sym c.place_of.ensures ∙ c.in-Some.is in
     sym (c.loop-step.invariant.same log ∙ ap (λ m. find_name m (Image d log).scopes c.loop-step.at.0 x) e
-    ∙ found-here d c.texts-texts.ensures.distinct c.args.name c.requires.name c.loop-step.at c.scope-here.result.now n c.scope-here.ensures.value c.scope-here.ensures.within log
+    ∙ found-here d c.texts-texts.ensures.distinct c.args.name c.requires.name c.loop-step.at c.scope-here.result.now
+    n c.scope-here.ensures.value c.scope-here.ensures.within log
     ∙ ap (λ o. or_above c.loop-step.at.0 o (option_map (λ p. p.0) c.scope-here.result.now.parent) up) here)
 
 pub returns-in-None-parent-clause-place : goal.returns-in-None-parent-clause-place
@@ -31,7 +32,8 @@ returns-in-None-parent-clause-place c = λ log.
     let here : position (has_name c.args.name) c.scope-here.result.now.names ≡ None
     = sym c.place_of.ensures ∙ c.in-None.is in
     sym (c.loop-step.invariant.same log ∙ ap (λ m. find_name m (Image d log).scopes c.loop-step.at.0 x) e
-    ∙ found-here d c.texts-texts.ensures.distinct c.args.name c.requires.name c.loop-step.at c.scope-here.result.now n c.scope-here.ensures.value c.scope-here.ensures.within log
+    ∙ found-here d c.texts-texts.ensures.distinct c.args.name c.requires.name c.loop-step.at c.scope-here.result.now
+    n c.scope-here.ensures.value c.scope-here.ensures.within log
     ∙ ap (λ o. or_above c.loop-step.at.0 o (option_map (λ p. p.0) c.scope-here.result.now.parent) up) here
     ∙ ap (λ p. or_above c.loop-step.at.0 None (option_map (λ p. p.0) p) up) c.in-None-parent.is)
 
@@ -49,7 +51,8 @@ loop-step-preserved c =
           let x = text_in (names_of d) c.args.name in
           let up : ℕ → Option (ℕ × ℕ) = λ p. find_name n (Image d log).scopes p x in
           c.loop-step.invariant.same log ∙ ap (λ m. find_name m (Image d log).scopes c.loop-step.at.0 x) e
-          ∙ found-here d c.texts-texts.ensures.distinct c.args.name c.requires.name c.loop-step.at c.scope-here.result.now n c.scope-here.ensures.value c.scope-here.ensures.within log
+          ∙ found-here d c.texts-texts.ensures.distinct c.args.name c.requires.name c.loop-step.at
+          c.scope-here.result.now n c.scope-here.ensures.value c.scope-here.ensures.within log
           ∙ ap (λ o. or_above c.loop-step.at.0 o (option_map (λ p. p.0) c.scope-here.result.now.parent) up) here
           ∙ ap (λ p. or_above c.loop-step.at.0 None (option_map (λ p. p.0) p) up) c.in-Some-parent.is;
       homes = λ home r h.
@@ -62,7 +65,8 @@ pub returns-clause-place : goal.returns-clause-place
 returns-clause-place c = λ log.
     let e : c.scopes-step-end.result - c.loop-step.step ≡ 0 = omega arith in
     sym (c.loop-step.invariant.same log
-    ∙ ap (λ m. find_name m (Image c.args.w.now log).scopes c.loop-step.at.0 (text_in (names_of c.args.w.now) c.args.name)) e)
+    ∙ ap (λ m. find_name m (Image c.args.w.now log).scopes c.loop-step.at.0
+    (text_in (names_of c.args.w.now) c.args.name)) e)
 
 pub returns-in-Some-clause-home : goal.returns-in-Some-clause-home
 returns-in-Some-clause-home c = c.loop-step.invariant.homes

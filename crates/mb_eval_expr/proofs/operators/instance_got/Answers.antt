@@ -1,5 +1,5 @@
 use Rattle.mb_frames.specs.Sorts.{AValue}
-use Rattle.mb_eval_expr.proofs.Keeping.{kept-left, object-held}
+use Rattle.mb_eval_expr.proofs.Keeping.{kept-left}
 use Rattle.std.proofs.Common.{Ok, ap, false, ◌∙◌}
 use Rattle.std.specs.Prelude.{if◌then◌else◌}
 use Rattle.mb_frames.proofs.Passed.{Part-by, Part-sure}
@@ -9,6 +9,7 @@ use Rattle.mb_model.specs.Nodes.BinaryOperators.{instance_object, instance_of, i
 use Rattle.mb_model.specs.Task.{Answer}
 use Rattle.mb_model.specs.Writing.{Does, truth, type_error}
 use Rattle.mb_world.specs.Image.{Image, Resolve, names_of, object_in}
+use Rattle.mb_frames.proofs.HeldLess.{value-object}
 use Rattle.mb_eval_expr.proofs.operators.instance_got.Goals as goal
 
 pub returns-in-Object-clause-row : goal.returns-in-Object-clause-row
@@ -18,9 +19,11 @@ returns-in-Object-clause-row c = λ f.
     let s = c.args.home.0 in
     let y = object_in n c.in-Object.object in
     let z = Resolve n c.args.b in
-    rw c.in-Object.is (Part-by c.args.home c.instance_object.result d c.instance_object.new.w f f (instance_row s y z finished) (instance_object s y z finished)
+    rw c.in-Object.is (Part-by c.args.home c.instance_object.result d c.instance_object.new.w f f
+    (instance_row s y z finished) (instance_object s y z finished)
     (λ log. ap (λ b. instance_of s y z b finished (Image d log)) (c.in-Some.ensures.calls log)
-    ∙ ap (λ b. let r : Does Answer = if b then instance_object s y z else truth false in r finished (Image d log)) (object-is n c.in-Object.object))
+    ∙ ap (λ b. let r : Does Answer = if b then instance_object s y z else truth false in r finished (Image d log))
+    (object-is n c.in-Object.object))
     (rw c.in-Some.ensures.object (c.instance_object.ensures.row f)))
 
 pub returns-in_default-clause-row : goal.returns-in_default-clause-row
@@ -32,7 +35,8 @@ returns-in_default-clause-row c = λ f.
     let z = Resolve n c.args.b in
     Part-by c.args.home (Ok c.truth_value.result) d d f f (instance_row s y z finished) (truth false finished)
     (λ log. ap (λ b. instance_of s y z b finished (Image d log)) (c.in-Some.ensures.calls log)
-    ∙ ap (λ b. let r : Does Answer = if b then instance_object s y z else truth false in r finished (Image d log)) (no-object n c.args.a c.in_default.not-Object))
+    ∙ ap (λ b. let r : Does Answer = if b then instance_object s y z else truth false in r finished (Image d log))
+    (no-object n c.args.a c.in_default.not-Object))
     (Part-sure c.args.home d f (truth false finished) c.truth_value.result (c.truth_value.ensures.row c.args.home d))
 
 pub returns-in-None-clause-row : goal.returns-in-None-clause-row
@@ -42,15 +46,17 @@ returns-in-None-clause-row c = λ f.
     let s = c.args.home.0 in
     let y = Resolve n c.args.a in
     let z = Resolve n c.args.b in
-    Part-by c.args.home c.type_error.result d c.type_error.new.w f f (instance_row s y z finished) (type_error s finished)
-    (λ log. ap (λ b. instance_of s y z b finished (Image d log)) (c.in-None.ensures.calls log)) (c.type_error.ensures.row f)
+    Part-by c.args.home c.type_error.result d c.type_error.new.w f f (instance_row s y z finished)
+    (type_error s finished)
+    (λ log. ap (λ b. instance_of s y z b finished (Image d log)) (c.in-None.ensures.calls log))
+    (c.type_error.ensures.part f)
 
 pub returns-in-Object-clause-keeps : goal.returns-in-Object-clause-keeps
 returns-in-Object-clause-keeps c = λ r i h.
     let d = c.args.w.now in
     c.instance_object.ensures.keeps r i (
-      object-held d c.args.home c.in-Object.object (rw c.in-Object.is at h.0),
-      (object-held d c.args.home c.in-Some.function (rw c.in-Some.ensures.object at h.1.0), tt),
+      value-object d c.args.home c.in-Object.object (rw c.in-Object.is at h.0),
+      (value-object d c.args.home c.in-Some.function (rw c.in-Some.ensures.object at h.1.0), tt),
     )
 
 pub returns-in_default-clause-keeps : goal.returns-in_default-clause-keeps

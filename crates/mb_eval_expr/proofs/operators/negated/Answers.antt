@@ -15,15 +15,17 @@ returns-in-Value-clause-row c = λ f.
     let h = rw c.in-Value.is at (c.negated.ensures.row c.args.home.0 d f c.requires.value) in
     Part-passed c.args.home (Ok c.value.result) d d d f f f (negated c.args.home.0 (Resolve n c.args.x) finished)
     (is_value (Resolve n c.in-Value.z) finished) (h.0 finished)
-    (Part-sure c.args.home d f (is_value (Resolve n c.in-Value.z) finished) c.value.result (c.value.ensures.row c.args.home d h.1))
+    (Part-sure c.args.home d f (is_value (Resolve n c.in-Value.z) finished) c.value.result
+    (c.value.ensures.row c.args.home d h.1))
 
 pub returns-in-Faulty-clause-row : goal.returns-in-Faulty-clause-row
 returns-in-Faulty-clause-row c = λ f.
     let d = c.args.w.now in
     let n = names_of d in
     let h = rw c.in-Faulty.is at (c.negated.ensures.row c.args.home.0 d f c.requires.value) in
-    Part-passed c.args.home c.throws.result d d c.throws.new.w f f f (negated c.args.home.0 (Resolve n c.args.x) finished)
-    (fail c.args.home.0 c.in-Faulty.kind finished) (h.0 finished) (c.throws.ensures.row f)
+    Part-passed c.args.home c.throws.result d d c.throws.new.w f f f
+    (negated c.args.home.0 (Resolve n c.args.x) finished)
+    (fail c.args.home.0 c.in-Faulty.kind finished) (h.0 finished) (c.throws.ensures.part f)
 
 pub returns-in-Value-clause-keeps : goal.returns-in-Value-clause-keeps
 returns-in-Value-clause-keeps c = λ r i h.

@@ -1,13 +1,13 @@
 use Rattle.mb_frames.specs.Sorts.{AValue}
 use Rattle.mb_frames.specs.Ready.{Changed}
-use Rattle.mb_eval_expr.proofs.Texting.{texts-changed}
+use Rattle.mb_parts.proofs.Texting.{texts-changed}
 use Rattle.mb_eval_expr.proofs.Keeping.{kept-halted, kept-now, kept-then, plain-held}
 use Rattle.mb_frames.proofs.Keeping.{inside-still}
 use Rattle.std.proofs.Common.{Ok}
 use Rattle.std.proofs.lemmas.Result.{err_from_is_err_and}
 use Rattle.mb_eval_expr.proofs.Joining.{Part-halted, no-objects}
 use Rattle.mb_frames.proofs.Passed.{Part-passed, Part-sure}
-use Rattle.mb_eval_expr.proofs.Writing.{Acts-texts}
+use Rattle.mb_parts.proofs.Writing.{Acts-texts}
 use Rattle.mb_model.specs.Meaning.{finished}
 use Rattle.mb_model.specs.Nodes.BinaryOperators.{operate, right_got}
 use Rattle.mb_model.specs.Writing.{fail, is_value}
@@ -49,19 +49,21 @@ returns-in-Faulty-clause-row c =
     (right_got c.args.home.0 c.args.sign (Resolve n c.args.a) (Resolve n c.args.b) finished)
     (fail c.args.home.0 c.in-Faulty.kind finished)
     (h.0 finished)
-    (c.throws.ensures.row f')
+    (c.throws.ensures.part f')
 
 pub returns-in_err-computed-in_default-clause-row : goal.returns-in_err-computed-in_default-clause-row
 returns-in_err-computed-in_default-clause-row c =
     let d = c.args.w.now in
     let n = names_of d in
     let p = err_from_is_err_and c.from_residual.result c.from_residual.ensures.1 in
-    rw (p.1, p.2) (Part-halted c.args.home c.in_err-computed-in_default.field-0.0 d c.compute.new.w c.args.fuel.now c.compute.new.fuel
+    rw (p.1, p.2) (Part-halted c.args.home c.in_err-computed-in_default.field-0.0 d c.compute.new.w c.args.fuel.now
+    c.compute.new.fuel
     (operate c.args.home.0 c.args.sign (Resolve n c.args.a) (Resolve n c.args.b)) finished
     (c.in_err-computed-in_default.ensures.row c.args.home.0))
 
 pub throws-requires : goal.throws-requires
-throws-requires c = Acts-texts c.args.w.now c.compute.new.w c.args.home c.in_ok-computed-in_default.ensures.grew c.requires.acts
+throws-requires c = Acts-texts c.args.w.now c.compute.new.w c.args.home c.in_ok-computed-in_default.ensures.grew
+    c.requires.acts
 
 pub returns-in-In-clause-keeps : goal.returns-in-In-clause-keeps
 returns-in-In-clause-keeps c = λ r i h. c.has_got.ensures.keeps r i (h.1.0, (h.0, tt))

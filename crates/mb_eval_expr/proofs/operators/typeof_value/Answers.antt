@@ -1,7 +1,7 @@
 use Rattle.mb_base.specs.declared.value.Value.TheVariants as v
 use Rattle.std.proofs.lemmas.Result.{err_from_is_err_and}
 use Rattle.mb_frames.specs.Ready.{Changed}
-use Rattle.mb_eval_expr.proofs.Texting.{texts-changed}
+use Rattle.mb_parts.proofs.Texting.{texts-changed}
 use Rattle.mb_eval_expr.proofs.Keeping.{kept-now, kept-still, plain-held}
 use Rattle.mb_frames.proofs.Keeping.{inside-still}
 use Rattle.std.proofs.Common.{Ok, ap, sym, ◌∙◌}
@@ -22,7 +22,8 @@ returns-clause-row c = λ f.
     let q = is_value (Text (text_in (names_of d') c.in_ok-text.text)) finished in
     Part-passed c.args.home (Ok c.value.result) d d' d' f f f p q
     (Passes-texts d d' f p q c.in_ok-text.ensures.grew
-    (λ log. ap (λ t. is_value (Text t) finished (Image d log)) (sym (c.type_word-units.ensures.word log) ∙ sym c.in_ok-text.ensures.text)))
+    (λ log. ap (λ t. is_value (Text t) finished (Image d log)) (sym (c.type_word-units.ensures.word log)
+    ∙ sym c.in_ok-text.ensures.text)))
     (Part-sure c.args.home d' f q c.value.result (c.value.ensures.row c.args.home d' c.in_ok-text.ensures.within))
 
 pub returns-clause-keeps : goal.returns-clause-keeps

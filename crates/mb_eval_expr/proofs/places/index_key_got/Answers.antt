@@ -1,13 +1,13 @@
 use Rattle.std.proofs.lemmas.Result.{err_from_is_err_and}
 use Rattle.mb_frames.specs.Sorts.{AValue}
 use Rattle.mb_frames.specs.Ready.{Changed}
-use Rattle.mb_eval_expr.proofs.Texting.{texts-changed}
+use Rattle.mb_parts.proofs.Texting.{texts-changed}
 use Rattle.mb_frames.proofs.Leaving.{holds-still}
-use Rattle.mb_eval_expr.proofs.Keeping.{key-held, kept-still, kept-then, stays}
+use Rattle.mb_eval_expr.proofs.Keeping.{kept-still, kept-then, stays}
 use Rattle.mb_frames.proofs.Keeping.{inside-still}
 use Rattle.std.proofs.Common.{sym, ◌∙◌}
 use Rattle.mb_frames.proofs.Passed.{Part-passed, Passes-texts}
-use Rattle.mb_eval_expr.proofs.Writing.{Acts-texts, Grew-texts}
+use Rattle.mb_parts.proofs.Writing.{Acts-texts, Grew-texts}
 use Rattle.mb_eval_expr.proofs.Placing.{HasRealNames-texts, after-grows, keyed, unkeyed}
 use Rattle.mb_frames.proofs.Growing.{are-grown}
 use Rattle.mb_frames.specs.Passing.{TextsGrew}
@@ -21,6 +21,7 @@ use Rattle.mb_model.specs.Writing.{◌>>=◌, type_error}
 use Rattle.mb_world.proofs.Grow.{ScopeIn-grows, ValueIn-grows}
 use Rattle.mb_world.specs.Data.{Data}
 use Rattle.mb_world.specs.Image.{Resolve, key_in, names_of}
+use Rattle.mb_frames.proofs.HeldLess.{key-held}
 use Rattle.mb_eval_expr.proofs.places.index_key_got.Goals as goal
 
 pub returns-in-Some-clause-row : goal.returns-in-Some-clause-row
@@ -31,13 +32,16 @@ returns-in-Some-clause-row c = λ f.
     let n' = names_of d' in
     let t : TextsGrew d d' = c.in_ok-found.ensures.grew in
     let here = context_in n c.args.home.0 c.args.at in
-    let p = (index_key_got here (Resolve n c.args.base) (Resolve n c.args.x) >>= after_rest (forms_at d c.args.home) here c.args.after) finished in
+    let p = (index_key_got here (Resolve n c.args.base) (Resolve n c.args.x) >>= after_rest (forms_at d c.args.home)
+    here c.args.after) finished in
     let q = after_rest (forms_at d' c.args.home) (context_in n' c.args.home.0 c.args.at) c.args.after
     (ToPlace (Resolve n' c.args.base) (key_in n' c.in-Some.key)) finished in
     Part-passed c.args.home c.follow.result d d' c.follow.new.w f f f p q
     (Passes-texts d d' f p q t (λ log.
-    keyed d c.args.home c.args.at c.args.after (Resolve n c.args.base) (Resolve n c.args.x) (key_in n' c.in-Some.key) (sym (rw c.in-Some.is at c.in_ok-found.ensures.key)) log
-    ∙ sym (after-grows d d' c.args.home c.args.at c.args.after c.requires.acts.ids (Grew-texts d d' t) c.requires.at.1 c.args.base c.requires.base
+    keyed d c.args.home c.args.at c.args.after (Resolve n c.args.base) (Resolve n c.args.x) (key_in n' c.in-Some.key)
+    (sym (rw c.in-Some.is at c.in_ok-found.ensures.key)) log
+    ∙ sym (after-grows d d' c.args.home c.args.at c.args.after c.requires.acts.ids (Grew-texts d d' t)
+    c.requires.at.1 c.args.base c.requires.base
     (key_in n' c.in-Some.key) log)))
     (c.follow.ensures.row f)
 
@@ -48,11 +52,13 @@ returns-in-None-clause-row c = λ f.
     let n = names_of d in
     let t : TextsGrew d d' = c.in_ok-found.ensures.grew in
     let here = context_in n c.args.home.0 c.args.at in
-    let p = (index_key_got here (Resolve n c.args.base) (Resolve n c.args.x) >>= after_rest (forms_at d c.args.home) here c.args.after) finished in
+    let p = (index_key_got here (Resolve n c.args.base) (Resolve n c.args.x) >>= after_rest (forms_at d c.args.home)
+    here c.args.after) finished in
     Part-passed c.args.home c.type_error.result d d' c.type_error.new.w f f f p (type_error c.args.home.0 finished)
     (Passes-texts d d' f p (type_error c.args.home.0 finished) t
-    (unkeyed d c.args.home c.args.at c.args.after (Resolve n c.args.base) (Resolve n c.args.x) (sym (rw c.in-None.is at c.in_ok-found.ensures.key))))
-    (c.type_error.ensures.row f)
+    (unkeyed d c.args.home c.args.at c.args.after (Resolve n c.args.base) (Resolve n c.args.x)
+    (sym (rw c.in-None.is at c.in_ok-found.ensures.key))))
+    (c.type_error.ensures.part f)
 
 pub follow-requires : goal.follow-requires
 follow-requires c =

@@ -1,6 +1,6 @@
 use Rattle.std.proofs.Common.{ap, sym, ◌∙◌, ◌≡◌}
 use Rattle.mb_eval_expr.proofs.Referring.{same-pointwise}
-use Rattle.mb_eval_expr.proofs.Writing.{text-is}
+use Rattle.mb_parts.proofs.Writing.{text-is}
 use Rattle.mb_world.specs.Data.{length_units}
 use Rattle.mb_world.specs.Image.{names_of, text_in}
 use Rattle.mb_world.specs.Value.{same_units}

@@ -1,4 +1,4 @@
-use Rattle.std.proofs.Common.{◌∙◌, ◌∷◌, List, None, ap, sym, ℕ}
+use Rattle.std.proofs.Common.{◌∙◌, List, None, ap, sym}
 use Rattle.std.proofs.lemmas.Result.{err_from_is_err_and}
 use Rattle.mb_eval_expr.proofs.Keeping.{kept-halted, kept-then, stays}
 use Rattle.mb_eval_expr.proofs.Listing.{Part-same}

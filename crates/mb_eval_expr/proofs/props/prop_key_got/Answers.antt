@@ -1,12 +1,12 @@
 use Rattle.std.proofs.Common.{◌+◌, ◌≡◌, ◌∙◌, None, Ok, Option, Some, ap, refl, slice_get, sym}
 use Rattle.std.proofs.lemmas.Result.{err_from_is_err_and}
-use Rattle.mb_eval_expr.proofs.Keeping.{kept-halted, kept-now, kept-still, kept-then, stays}
+use Rattle.mb_eval_expr.proofs.Keeping.{kept-halted, kept-now, kept-still, kept-then}
 use Rattle.mb_eval_expr.proofs.Listing.{Part-same}
-use Rattle.mb_eval_expr.proofs.Propping.{from_place, keyed-then, no-keyed, place-grow, prop-is}
-use Rattle.mb_eval_expr.proofs.Texting.{texts-changed}
-use Rattle.mb_eval_expr.proofs.Writing.{Acts-texts, Grew-texts}
+use Rattle.mb_eval_expr.proofs.PropsInOrder.{keyed-then}
+use Rattle.mb_eval_expr.proofs.Propping.{from_place, no-keyed, place-grow}
+use Rattle.mb_parts.proofs.Texting.{texts-changed}
+use Rattle.mb_parts.proofs.Writing.{Grew-texts}
 use Rattle.mb_eval_expr.specs.machine.Literals.{literal_held}
-use Rattle.mb_frames.proofs.Forms.{ready-runs}
 use Rattle.mb_frames.proofs.Going.{WentOn-free, WentOn-passes}
 use Rattle.mb_frames.proofs.Keeping.{inside-still}
 use Rattle.mb_frames.proofs.Leaving.{holds-still}
@@ -116,7 +116,8 @@ returns-in_err-step-in-Some-definition_at-clause-keeps c = λ q j w.
     let held : Holds d home (literal_held l) = (h.0, (h.1.0, (h.1.1.0, (h.1.1.1.0, tt)))) in
     let z = c.from_residual-in_err-step-in-Some-definition_at in
     let p = err_from_is_err_and z.result z.ensures.1 in
-    rw p.1 (kept-halted home d c.prop_keyed.new.w (changed-then home d d1 c.prop_keyed.new.w g c.prop_keyed.ensures.changed))
+    rw p.1 (kept-halted home d c.prop_keyed.new.w (changed-then home d d1 c.prop_keyed.new.w g
+    c.prop_keyed.ensures.changed))
 
 pub returns-in-Some-2-clause-row : goal.returns-in-Some-2-clause-row
 returns-in-Some-2-clause-row c =
@@ -139,11 +140,13 @@ returns-in-Some-2-clause-row c =
     let z = key_in (names_of d1) c.in-Some.key in
     let ke : Some z ≡ key_of (Resolve n c.args.x) = rw c.in-Some.is at c.in_ok-key.ensures.key in
     let k1 = from_place d1 home l (l.place + 1) in
-    let at1 = prop_keyed_at (forms_at d1 home) (context_in (names_of d1) s l.at) (object_in (names_of d1) l.object) c.args.property.0 z in
+    let at1 = prop_keyed_at (forms_at d1 home) (context_in (names_of d1) s l.at) (object_in (names_of d1) l.object)
+    c.args.property.0 z in
     let q = (at1 >>= (λ b. k1)) finished in
     let over = Passes-texts d d1 f p q t
     (λ log. ap (λ (o : Option PropertyKey). ((or_type_error s o >>= at) >>= (λ b. k)) finished (Image d log)) (sym ke)
-    ∙ ap (λ (m : Does Answer). m finished (Image d log)) (keyed-then d d1 home l c.args.property z r.ids (Grew-texts d d1 t) held)) in
+    ∙ ap (λ (m : Does Answer). m finished (Image d log)) (keyed-then d d1 home l c.args.property z r.ids
+    (Grew-texts d d1 t) held)) in
     let row = rw c.in-Some-2.is at c.in_ok-step-in-Some-definition_at.ensures.row in
     Part-passed home (Ok c.in-Some-2.step) d d1 c.prop_keyed.new.w f f f p q over (row f)
 
@@ -184,11 +187,13 @@ returns-in-None-2-clause-row c =
     let z = key_in (names_of d1) c.in-Some.key in
     let ke : Some z ≡ key_of (Resolve n c.args.x) = rw c.in-Some.is at c.in_ok-key.ensures.key in
     let k1 = from_place d1 home l (l.place + 1) in
-    let at1 = prop_keyed_at (forms_at d1 home) (context_in (names_of d1) s l.at) (object_in (names_of d1) l.object) c.args.property.0 z in
+    let at1 = prop_keyed_at (forms_at d1 home) (context_in (names_of d1) s l.at) (object_in (names_of d1) l.object)
+    c.args.property.0 z in
     let q = (at1 >>= (λ b. k1)) finished in
     let over = Passes-texts d d1 f p q t
     (λ log. ap (λ (o : Option PropertyKey). ((or_type_error s o >>= at) >>= (λ b. k)) finished (Image d log)) (sym ke)
-    ∙ ap (λ (m : Does Answer). m finished (Image d log)) (keyed-then d d1 home l c.args.property z r.ids (Grew-texts d d1 t) held)) in
+    ∙ ap (λ (m : Does Answer). m finished (Image d log)) (keyed-then d d1 home l c.args.property z r.ids
+    (Grew-texts d d1 t) held)) in
     let d2 = c.prop_keyed.new.w in
     let row = rw c.in-None-2.is at c.in_ok-step-in-Some-definition_at.ensures.row in
     let k2 = from_place d2 home l (l.place + 1) in
@@ -236,11 +241,13 @@ returns-in-None-definition_at-clause-row c =
     let z = key_in (names_of d1) c.in-Some.key in
     let ke : Some z ≡ key_of (Resolve n c.args.x) = rw c.in-Some.is at c.in_ok-key.ensures.key in
     let k1 = from_place d1 home l (l.place + 1) in
-    let at1 = prop_keyed_at (forms_at d1 home) (context_in (names_of d1) s l.at) (object_in (names_of d1) l.object) c.args.property.0 z in
+    let at1 = prop_keyed_at (forms_at d1 home) (context_in (names_of d1) s l.at) (object_in (names_of d1) l.object)
+    c.args.property.0 z in
     let q = (at1 >>= (λ b. k1)) finished in
     let over = Passes-texts d d1 f p q t
     (λ log. ap (λ (o : Option PropertyKey). ((or_type_error s o >>= at) >>= (λ b. k)) finished (Image d log)) (sym ke)
-    ∙ ap (λ (m : Does Answer). m finished (Image d log)) (keyed-then d d1 home l c.args.property z r.ids (Grew-texts d d1 t) held)) in
+    ∙ ap (λ (m : Does Answer). m finished (Image d log)) (keyed-then d d1 home l c.args.property z r.ids
+    (Grew-texts d d1 t) held)) in
     let none = no-keyed (context_in (names_of d1) s l.at) (object_in (names_of d1) l.object) c.args.property.0
     (slice_get (forms_at d1 home) c.args.property.0) z (c.in-None-definition_at.ensures.none refl) in
     Part-passed home c.props_from-in-None-definition_at.result d d1 c.props_from-in-None-definition_at.new.w f f
@@ -263,7 +270,11 @@ returns-in-None-definition_at-clause-keeps c = λ q j w.
     let h = c.requires.holds.1 in
     let held : Holds d home (literal_held l) = (h.0, (h.1.0, (h.1.1.0, (h.1.1.1.0, tt)))) in
     kept-then home d d1 g c.props_from-in-None-definition_at.new.w
-    (record { changed = c.props_from-in-None-definition_at.ensures.changed; leaves = c.props_from-in-None-definition_at.ensures.leaves })
+    (record {
+      changed = c.props_from-in-None-definition_at.ensures.changed;
+      leaves =
+          c.props_from-in-None-definition_at.ensures.leaves;
+    })
 
 pub returns-in-None-clause-row : goal.returns-in-None-clause-row
 returns-in-None-clause-row c =
@@ -287,7 +298,7 @@ returns-in-None-clause-row c =
     Part-passed home c.type_error.result d d1 c.type_error.new.w f f f p (type_error s finished)
     (Passes-texts d d1 f p (type_error s finished) t
     (λ log. ap (λ (o : Option PropertyKey). ((or_type_error s o >>= at) >>= (λ b. k)) finished (Image d log)) (sym kn)))
-    (c.type_error.ensures.row f)
+    (c.type_error.ensures.part f)
 
 pub returns-in-None-clause-keeps : goal.returns-in-None-clause-keeps
 returns-in-None-clause-keeps c = λ q j w.

@@ -26,7 +26,8 @@ returns-in-Value-clause-row c = λ f.
     let o = slice_get (forms_at d home) c.args.property.0 in
     let k = rw c.in-Value.is at c.requires.definition in
     Part-sure home d f
-    ((prop_by (context_in (names_of d) home.0 l.at) (object_in (names_of d) l.object) c.args.property.0 o (key_in (names_of d) c.args.key) >>= (λ a. rest_of d home l)) finished)
+    ((prop_by (context_in (names_of d) home.0 l.at) (object_in (names_of d) l.object) c.args.property.0 o
+    (key_in (names_of d) c.args.key) >>= (λ a. rest_of d home l)) finished)
     (move.Wait (x.Expr (e.PropValue l.at l.node l.object l.place c.args.key)) (t.Evaluate c.in-Value.node l.at))
     (Sure-valued d home l c.args.property c.requires.holds o c.in-Value.node c.args.key c.requires.key k.0)
 

@@ -1,12 +1,11 @@
-use Rattle.std.proofs.Common.{SFits, rules, of_z, to_z, w64, ℤ, None, Option, Some, ap, refl, slice_get, subst, sym, ◌≡◌, ◌∙◌}
+use Rattle.std.proofs.Common.{SFits, rules, of_z, to_z, w64, ℤ, ap, refl, slice_get, sym, ◌≡◌, ◌∙◌}
 use Rattle.std.proofs.lemmas.Int.{to_z-of_z}
-use Rattle.mb_base.specs.declared.value.Key.TheVariants as k
-use Rattle.mb_eval_expr.proofs.Keeping.{stays, waits-node}
-use Rattle.mb_eval_expr.proofs.Propping.{Defines-by, Defines-texts, Sure-computed, definition-grows, keyed-row, no-prop, prop-form, prop-is, rest-grow}
-use Rattle.mb_eval_expr.proofs.Texting.{texts-changed}
-use Rattle.mb_eval_expr.proofs.Writing.{Grew-texts}
-use Rattle.mb_eval_expr.specs.machine.Literals.{IsDefinitionAt, IsOf, literal_held, rest_of}
-use Rattle.mb_frames.proofs.Forms.{context-grows, forms-grow}
+use Rattle.mb_eval_expr.proofs.Keeping.{waits-node}
+use Rattle.mb_eval_expr.proofs.PropsInOrder.{definition-grows, keyed-row}
+use Rattle.mb_eval_expr.proofs.Propping.{Defines-by, Defines-texts, Sure-computed, no-prop, prop-form, prop-is, rest-grow}
+use Rattle.mb_parts.proofs.Texting.{texts-changed}
+use Rattle.mb_parts.proofs.Writing.{Grew-texts}
+use Rattle.mb_eval_expr.specs.machine.Literals.{literal_held, rest_of}
 use Rattle.mb_frames.proofs.Going.{WentOn-none}
 use Rattle.mb_frames.proofs.Keeping.{expression-held, inside-still, node-held}
 use Rattle.mb_frames.proofs.Leaving.{holds-still}
@@ -15,23 +14,19 @@ use Rattle.mb_frames.proofs.Steps.{Grew-same}
 use Rattle.mb_frames.proofs.Readying.{changed-same, changed-then}
 use Rattle.mb_frames.specs.Kinds.{is_prop_form}
 use Rattle.mb_frames.specs.Resolved.{context_in}
-use Rattle.mb_frames.specs.Rest.Expressions.{prop_by, prop_keyed_at}
+use Rattle.mb_frames.specs.Rest.Expressions.{prop_keyed_at}
 use Rattle.mb_frames.specs.Standing.{forms_at}
 use Rattle.mb_frames.specs.declared.expressions.ExprFrame.TheVariants as e
 use Rattle.mb_frames.specs.declared.frame.Frame.TheVariants as x
 use Rattle.mb_frames.specs.declared.frame.Move.TheVariants as move
 use Rattle.mb_frames.specs.declared.task.Task.TheVariants as t
 use Rattle.mb_model.specs.Meaning.{finished}
-use Rattle.mb_model.specs.Nodes.Evaluation.{Context}
 use Rattle.mb_model.specs.Nodes.Literals.{prop_of}
 use Rattle.mb_model.specs.Task.{Answer, Nothing}
 use Rattle.mb_model.specs.Writing.{◌>>=◌, Does, give}
-use Rattle.mb_tree.specs.declared.form.PropName.TheVariants as p
-use Rattle.mb_world.specs.Data.{Data}
-use Rattle.mb_world.specs.Form.{Form}
 use Rattle.mb_world.specs.Image.{Image, key_in, names_of, object_in, text_in}
 use Rattle.mb_world.specs.Key.{Named}
-use Rattle.mb_world.specs.Value.{Val, whole_text}
+use Rattle.mb_world.specs.Value.{whole_text}
 use Rattle.mb_eval_expr.proofs.props.prop_row.Goals as goal
 
 pub returns-in-Computed-clause-row : goal.returns-in-Computed-clause-row
@@ -42,7 +37,8 @@ returns-in-Computed-clause-row c = λ f.
     let o = slice_get (forms_at d home) c.args.property.0 in
     let i = rw c.in-Computed.is at c.in-Some.ensures.prop in
     Part-sure home d f
-    ((prop_of (context_in (names_of d) home.0 l.at) (object_in (names_of d) l.object) c.args.property.0 o >>= (λ a. rest_of d home l)) finished)
+    ((prop_of (context_in (names_of d) home.0 l.at) (object_in (names_of d) l.object) c.args.property.0 o >>=
+    (λ a. rest_of d home l)) finished)
     (move.Wait (x.Expr (e.PropKey l.at l.node l.object c.args.property l.place)) (t.Evaluate c.in-Computed.key l.at))
     (Sure-computed d home l c.args.property c.requires.holds o c.in-Computed.key c.in-Some.definition refl i)
 
@@ -65,7 +61,11 @@ returns-in-Computed-clause-leaves c =
           h.1.1.0,
           (
             h.1.1.1.0,
-            (node-held d home is_prop_form c.args.property.0 (prop-form d o c.in-Some.name c.in-Some.definition c.in-Some.ensures.prop), tt),
+            (
+              node-held d home is_prop_form c.args.property.0 (prop-form d o c.in-Some.name c.in-Some.definition
+                  c.in-Some.ensures.prop),
+              tt,
+            ),
           ),
         ),
       ),
@@ -78,11 +78,14 @@ returns-in-Written-clause-row c =
     let l = c.args.literal in
     let home = c.args.home in
     let r = c.prop_keyed.result in
-    let e = keyed-row d d home l c.args.property c.in-Some.name (text_in (names_of d) c.in-Written.name) c.in-Some.definition
+    let e = keyed-row d d home l c.args.property c.in-Some.name (text_in (names_of d) c.in-Written.name)
+    c.in-Some.definition
     c.requires.ready.ids (Grew-same d) c.requires.holds c.in-Some.ensures.prop (rw c.in-Written.is refl) in
-    let k : Named (text_in (names_of d) c.in-Written.name) ≡ key_in (names_of d) c.key-key.result = sym (rw c.key-key.ensures refl) in
+    let k : Named (text_in (names_of d) c.in-Written.name) ≡ key_in (names_of d) c.key-key.result =
+    sym (rw c.key-key.ensures refl) in
     Defines-by home l r d c.prop_keyed.new.w _ _
-    (e ∙ ap (prop_keyed_at (forms_at d home) (context_in (names_of d) home.0 l.at) (object_in (names_of d) l.object) c.args.property.0) k)
+    (e ∙ ap (prop_keyed_at (forms_at d home) (context_in (names_of d) home.0 l.at) (object_in (names_of d) l.object)
+    c.args.property.0) k)
     c.prop_keyed.ensures.row
 
 pub prop_keyed-requires-in-Whole-clause-ready : goal.prop_keyed-requires-in-Whole-clause-ready
@@ -130,9 +133,11 @@ returns-in_ok-text-in-Whole-clause-row c =
     let fits : SFits w64 c.in-Whole.n = search rules in
     let z : to_z w64 (of_z w64 c.in-Whole.n) ≡ c.in-Whole.n = to_z-of_z w64 c.in-Whole.n fits in
     let k : Named (whole_text c.in-Whole.n) ≡ key_in (names_of d1) c.key-key-in-Whole.result
-    = ap (λ (m : ℤ). Named (whole_text m)) (sym z) ∙ ap Named (sym c.in_ok-text-in-Whole.ensures.text) ∙ sym (rw c.key-key-in-Whole.ensures refl) in
+    = ap (λ (m : ℤ). Named (whole_text m)) (sym z) ∙ ap Named (sym c.in_ok-text-in-Whole.ensures.text) ∙ sym
+    (rw c.key-key-in-Whole.ensures refl) in
     Defines-texts home l r d d1 c.prop_keyed-in-Whole.new.w _ _ t
-    (e ∙ ap (prop_keyed_at (forms_at d1 home) (context_in (names_of d1) home.0 l.at) (object_in (names_of d1) l.object) c.args.property.0) k)
+    (e ∙ ap (prop_keyed_at (forms_at d1 home) (context_in (names_of d1) home.0 l.at)
+    (object_in (names_of d1) l.object) c.args.property.0) k)
     (sym (rest-grow d d1 home l c.requires.ready.ids q c.requires.holds))
     c.prop_keyed-in-Whole.ensures.row
 
@@ -148,9 +153,11 @@ returns-in-None-clause-row c =
     let d = c.args.w.now in
     let l = c.args.literal in
     let o = slice_get (forms_at d c.args.home) c.args.property.0 in
-    let p = prop_of (context_in (names_of d) c.args.home.0 l.at) (object_in (names_of d) l.object) c.args.property.0 o in
+    let p = prop_of (context_in (names_of d) c.args.home.0 l.at) (object_in (names_of d) l.object) c.args.property.0
+    o in
     let e : p ≡ give Nothing
-    = no-prop (context_in (names_of d) c.args.home.0 l.at) (object_in (names_of d) l.object) c.args.property.0 o (c.in-None.ensures.none refl) in
+    = no-prop (context_in (names_of d) c.args.home.0 l.at) (object_in (names_of d) l.object) c.args.property.0 o
+    (c.in-None.ensures.none refl) in
     (Nothing, WentOn-none Answer d 0 p Nothing (λ k log. ap (λ (q : Does Answer). q k (Image d log)) e))
 
 pub returns-in-None-clause-changed : goal.returns-in-None-clause-changed

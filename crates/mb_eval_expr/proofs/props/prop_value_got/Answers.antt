@@ -2,7 +2,8 @@ use Rattle.std.proofs.Common.{◌+◌, sym}
 use Rattle.std.proofs.lemmas.Result.{err_from_is_err_and}
 use Rattle.mb_eval_expr.proofs.Keeping.{kept-halted, kept-then, stays}
 use Rattle.mb_eval_expr.proofs.Listing.{Part-same}
-use Rattle.mb_eval_expr.proofs.Propping.{from_place, opened-held, place-grow}
+use Rattle.mb_eval_expr.proofs.Describing.{opened-held}
+use Rattle.mb_eval_expr.proofs.Propping.{from_place, place-grow}
 use Rattle.mb_frames.proofs.Going.{WentOn-free, WentOn-passes}
 use Rattle.mb_frames.proofs.Keeping.{inside-still}
 use Rattle.mb_frames.proofs.Passed.{Part-passed}
@@ -36,8 +37,10 @@ props_from-requires-clause-holds c =
     let home = c.args.home in
     let r = c.requires.ready in
     let h = c.requires.holds.1 in
-    let g = c.defined.ensures.changed in
-    (stays home d d1 g r h.0, (stays home d d1 g r h.1.0, (stays home d d1 g r h.1.1.0, (stays home d d1 g r h.1.1.1.0, tt))))
+    let g = c.defined.ensures.changed in (
+      stays home d d1 g r h.0,
+      (stays home d d1 g r h.1.0, (stays home d d1 g r h.1.1.0, (stays home d d1 g r h.1.1.1.0, tt))),
+    )
 
 pub returns-clause-row : goal.returns-clause-row
 returns-clause-row c =

@@ -1,14 +1,14 @@
-use Rattle.std.proofs.Common.{◌+◌, ◌≡◌, ◌∙◌, Err, drop, List, None, Ok, Some, [], ap, arith, length, refl, slice_get, sym, ℕ}
+use Rattle.std.proofs.Common.{◌+◌, ◌≡◌, Err, drop, List, Ok, [], ap, arith, refl, slice_get, sym, ℕ}
 use Rattle.std.proofs.lemmas.Result.{err_from_is_err_and}
-use Rattle.mb_base.specs.declared.value.Side.{Side}
-use Rattle.mb_eval_expr.proofs.Propping.{drop-all, from_place, not-past, parts-length, prop-passes, prop-then, prop-unpaid}
-use Rattle.mb_eval_expr.proofs.Steadying.{ready-acts}
+use Rattle.mb_parts.proofs.Places.{not-past}
+use Rattle.mb_eval_expr.proofs.PropsInOrder.{drop-all, parts-length, prop-passes, prop-then, prop-unpaid}
+use Rattle.mb_eval_expr.proofs.Propping.{from_place}
 use Rattle.mb_eval_expr.specs.machine.Literals.{literal_held}
-use Rattle.mb_frames.proofs.Forms.{forms-grow, ready-runs}
+use Rattle.mb_frames.proofs.Forms.{ready-runs}
 use Rattle.mb_frames.proofs.HeldLess.{object-value, plain-object}
 use Rattle.mb_frames.proofs.Keeping.{inside-still}
 use Rattle.mb_frames.proofs.Leaving.{holds-still}
-use Rattle.mb_frames.proofs.Passed.{Part-by, Part-passed, Part-sure, Part-unpaid, Passes-by, Passes-then}
+use Rattle.mb_frames.proofs.Passed.{Part-passed, Part-sure, Passes-by, Passes-then}
 use Rattle.mb_frames.proofs.Readying.{changed-same, changed-then}
 use Rattle.mb_frames.specs.Rest.Parts.{parts_at}
 use Rattle.mb_frames.specs.Standing.{forms_at}
@@ -17,13 +17,13 @@ use Rattle.mb_frames.specs.Resolved.{context_in}
 use Rattle.mb_frames.specs.declared.machine.Halt.TheVariants.{Spent as SpentHalt}
 use Rattle.mb_model.specs.Nodes.Literals.{prop_of, props}
 use Rattle.mb_model.specs.Writing.{◌>>=◌, is_value}
-use Rattle.mb_world.specs.Data.{Data}
 use Rattle.mb_world.specs.Image.{Image, names_of, object_in}
 use Rattle.mb_eval_expr.proofs.props.props_from.Goals as goal
 
 pub loop-place-init : goal.loop-place-init
 loop-place-init c = record {
-  passes = Passes-by c.args.w.now c.args.fuel.now (from_place c.args.w.now c.args.home c.args.literal c.args.from finished)
+  passes = Passes-by c.args.w.now c.args.fuel.now (from_place c.args.w.now c.args.home c.args.literal c.args.from
+      finished)
       (from_place c.args.w.now c.args.home c.args.literal c.args.from finished) (λ log. refl);
   changed = changed-same c.args.home c.args.w.now c.requires.ready;
 }
@@ -31,7 +31,8 @@ loop-place-init c = record {
 pub part_at-requires : goal.part_at-requires
 part_at-requires c =
     let g = c.loop-place.invariant.changed in
-    ready-runs c.loop-place.w c.args.home g.ready (inside-still c.args.home c.args.w.now c.loop-place.w g c.requires.inside)
+    ready-runs c.loop-place.w c.args.home g.ready (inside-still c.args.home c.args.w.now c.loop-place.w g
+    c.requires.inside)
 
 pub unreachable-requires : goal.unreachable-requires
 unreachable-requires c =
@@ -69,7 +70,8 @@ loop-place-preserved c =
     let place = c.loop-place.place in
     let q = rw c.in-None-2.is at c.in_ok-step-in-Some.ensures.row in
     record {
-      passes = prop-then d d1 c.prop_row.new.w home l c.args.fuel.now c.loop-place.fuel c.charge.new.self place c.args.from
+      passes = prop-then d d1 c.prop_row.new.w home l c.args.fuel.now c.loop-place.fuel c.charge.new.self place
+          c.args.from
           c.in-Some.property q.0 c.loop-place.invariant.passes i (omega (arith, c.in_ok-charge-in-Some.ensures.paid))
           (sym c.in-Some.ensures.part) g.ready.ids held q.1;
       changed = changed-then home d d1 c.prop_row.new.w g c.prop_row.ensures.changed;
@@ -94,7 +96,8 @@ returns-in_err-charge-in-Some-clause-row c =
 
 pub returns-in_err-step-in-Some-clause-changed : goal.returns-in_err-step-in-Some-clause-changed
 returns-in_err-step-in-Some-clause-changed c =
-    changed-then c.args.home c.args.w.now c.loop-place.w c.prop_row.new.w c.loop-place.invariant.changed c.prop_row.ensures.changed
+    changed-then c.args.home c.args.w.now c.loop-place.w c.prop_row.new.w c.loop-place.invariant.changed
+    c.prop_row.ensures.changed
 
 pub returns-in-Some-2-clause-row : goal.returns-in-Some-2-clause-row
 returns-in-Some-2-clause-row c =
@@ -113,16 +116,19 @@ returns-in-Some-2-clause-row c =
     let n = c.in-Some.property in
     let P = from_place d home l c.args.from finished in
     let Q = from_place d1 home l place finished in
-    let R = (prop_of (context_in (names_of d1) home.0 l.at) (object_in (names_of d1) l.object) n.0 (slice_get (forms_at d1 home) n.0)
+    let R = (prop_of (context_in (names_of d1) home.0 l.at) (object_in (names_of d1) l.object) n.0
+    (slice_get (forms_at d1 home) n.0)
     >>= (λ a. from_place d1 home l (place + 1))) finished in
     Part-passed home (Ok c.in-Some-2.step) d d1 c.prop_row.new.w f f2 f2 P R
     (Passes-then d d1 d1 f f1 f2 P Q R c.loop-place.invariant.passes
-    (prop-passes d1 home l f1 f2 place n i (omega (arith, c.in_ok-charge-in-Some.ensures.paid)) (sym c.in-Some.ensures.part)))
+    (prop-passes d1 home l f1 f2 place n i (omega (arith, c.in_ok-charge-in-Some.ensures.paid))
+    (sym c.in-Some.ensures.part)))
     (q f2)
 
 pub returns-in-Some-2-clause-changed : goal.returns-in-Some-2-clause-changed
 returns-in-Some-2-clause-changed c =
-    changed-then c.args.home c.args.w.now c.loop-place.w c.prop_row.new.w c.loop-place.invariant.changed c.prop_row.ensures.changed
+    changed-then c.args.home c.args.w.now c.loop-place.w c.prop_row.new.w c.loop-place.invariant.changed
+    c.prop_row.ensures.changed
 
 pub returns-clause-row : goal.returns-clause-row
 returns-clause-row c =

@@ -1,21 +1,21 @@
-use Rattle.std.proofs.Common.{Ok, ap, subst, sym, ◌∙◌, ◌≡◌}
+use Rattle.std.proofs.Common.{ap, subst, sym, ◌∙◌}
 use Rattle.mb_frames.proofs.Steps.{Step-sure}
 use Rattle.mb_frames.specs.Rest.Expressions.{expr_rest}
 use Rattle.mb_frames.specs.Standing.{forms_at}
-use Rattle.mb_frames.specs.declared.expressions.ExprFrame.TheVariants as e
 use Rattle.mb_model.specs.Meaning.{finished}
 use Rattle.mb_model.specs.Task.{Value as ValueAnswer}
-use Rattle.mb_world.specs.Image.{Resolve, names_of}
+use Rattle.mb_world.specs.Image.{names_of}
 use Rattle.mb_eval_expr.proofs.Resumed.{rest-value, takes-is}
 use Rattle.mb_frames.specs.Resolved.{answer_in}
 use Rattle.mb_frames.specs.Stepping.{Step}
 use Rattle.mb_model.specs.Task.{Answer}
-use Rattle.mb_model.specs.Writing.{Does, flag_in, truth, unless_type_error, value_in}
-use Rattle.std.proofs.Common.{Bool, true}
-use Rattle.mb_world.specs.Value.{Val}
-use Rattle.mb_eval_expr.proofs.Keeping.{holds-first, holds-second, kept-left}
+use Rattle.mb_model.specs.Writing.{Does, truth, value_in}
+use Rattle.std.proofs.Common.{true}
+use Rattle.mb_eval_expr.proofs.Keeping.{kept-left}
 use Rattle.mb_eval_expr.proofs.Steadying.{answer-value}
 use Rattle.mb_frames.specs.Holding.{answer_held, expr_held}
+use Rattle.mb_frames.proofs.Parts.{all-first, all-second}
+use Rattle.mb_frames.specs.Ready.{MayHold}
 use Rattle.mb_eval_expr.proofs.resuming.resume.Goals as goal
 
 pub returns-in-Put-clause-row : goal.returns-in-Put-clause-row
@@ -39,8 +39,10 @@ returns-clause-row c = λ l.
     let t = takes-is c.args.frame c.in_default.not-Put c.in_default.not-Deleted c.in_default.not-Has in
     let v = value_in (answer_in n c.args.answer) in
     let q = rest-value n (forms_at d c.args.home) c.args.home.0 c.args.frame (answer_in n c.args.answer) t
-    ∙ ap (λ y. expr_rest n (forms_at d c.args.home) c.args.home.0 c.args.frame (ValueAnswer y)) (sym (c.value_of-x.ensures.value d)) in
-    subst (λ (p : Does Answer). Step c.args.home true c.resume_value.result d c.resume_value.new.w c.args.fuel.now c.resume_value.new.fuel l l (p finished))
+    ∙ ap (λ y. expr_rest n (forms_at d c.args.home) c.args.home.0 c.args.frame (ValueAnswer y))
+    (sym (c.value_of-x.ensures.value d)) in
+    subst (λ (p : Does Answer). Step c.args.home true c.resume_value.result d c.resume_value.new.w c.args.fuel.now
+    c.resume_value.new.fuel l l (p finished))
     (sym q) (c.resume_value.ensures.row l)
 
 pub resume_value-requires-clause-ours : goal.resume_value-requires-clause-ours
@@ -68,6 +70,8 @@ returns-clause-keeps c = λ r i h.
     let d = c.args.w.now in
     let home = c.args.home in
     c.resume_value.ensures.keeps r i (
-      rw c.value_of-x.ensures.held (answer-value d home r c.args.answer (holds-second d home (expr_held c.args.frame) (answer_held c.args.answer) h)),
-      holds-first d home (expr_held c.args.frame) (answer_held c.args.answer) h,
+      rw c.value_of-x.ensures.held
+          (answer-value d home r c.args.answer (all-second (MayHold d home) (expr_held c.args.frame)
+          (answer_held c.args.answer) h)),
+      all-first (MayHold d home) (expr_held c.args.frame) (answer_held c.args.answer) h,
     )

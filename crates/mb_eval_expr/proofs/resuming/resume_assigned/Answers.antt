@@ -19,8 +19,10 @@ returns-in-CompoundOld-clause-row c = λ l.
     let n = names_of d in
     let h = rw c.in-CompoundOld.is at c.requires.frame in
     rw c.in-CompoundOld.is (Step-sure c.args.home true d
-    (expr_rest n (forms_at d c.args.home) c.args.home.0 (e.CompoundOld c.in-CompoundOld.at c.in-CompoundOld.sign c.in-CompoundOld.value c.in-CompoundOld.to) (ValueAnswer (Resolve n c.args.x)) finished)
-    c.compound_old.result c.args.fuel.now l (c.compound_old.ensures.row c.args.home d (h.0, h.1.0) h.1.1.1.1 c.requires.value))
+    (expr_rest n (forms_at d c.args.home) c.args.home.0 (e.CompoundOld c.in-CompoundOld.at c.in-CompoundOld.sign
+    c.in-CompoundOld.value c.in-CompoundOld.to) (ValueAnswer (Resolve n c.args.x)) finished)
+    c.compound_old.result c.args.fuel.now l (c.compound_old.ensures.row c.args.home d (h.0, h.1.0) h.1.1.1.1
+    c.requires.value))
 
 pub returns-in-CompoundValue-clause-row : goal.returns-in-CompoundValue-clause-row
 returns-in-CompoundValue-clause-row c = λ l. rw c.in-CompoundValue.is (c.compound_got.ensures.row true l)
@@ -42,7 +44,8 @@ returns-in-NewArgument-clause-row c = λ l. rw c.in-NewArgument.is (c.new_next.e
 
 pub resume_literal-requires-clause-ours : goal.resume_literal-requires-clause-ours
 resume_literal-requires-clause-ours c =
-    literal-is c.args.frame c.requires.ours c.in_default.not-AssignValue c.in_default.not-CompoundOld c.in_default.not-CompoundValue
+    literal-is c.args.frame c.requires.ours c.in_default.not-AssignValue c.in_default.not-CompoundOld
+    c.in_default.not-CompoundValue
     c.in_default.not-UpdateOld c.in_default.not-Callee c.in_default.not-Argument c.in_default.not-Constructor
     c.in_default.not-NewArgument
 

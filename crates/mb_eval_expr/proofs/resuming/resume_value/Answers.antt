@@ -28,8 +28,10 @@ returns-in-IndexBase-clause-row c = λ l.
     let n = names_of d in
     let h = rw c.in-IndexBase.is at c.requires.frame in
     rw c.in-IndexBase.is (Step-sure c.args.home true d
-    (expr_rest n (forms_at d c.args.home) c.args.home.0 (e.IndexBase c.in-IndexBase.at c.in-IndexBase.key c.in-IndexBase.after) (ValueAnswer (Resolve n c.args.x)) finished)
-    c.index_base_got.result c.args.fuel.now l (c.index_base_got.ensures.row c.args.home d (h.0, h.1.0) h.1.1.1 c.requires.value))
+    (expr_rest n (forms_at d c.args.home) c.args.home.0 (e.IndexBase c.in-IndexBase.at c.in-IndexBase.key
+    c.in-IndexBase.after) (ValueAnswer (Resolve n c.args.x)) finished)
+    c.index_base_got.result c.args.fuel.now l (c.index_base_got.ensures.row c.args.home d (h.0, h.1.0) h.1.1.1
+    c.requires.value))
 
 pub returns-in-IndexKey-clause-row : goal.returns-in-IndexKey-clause-row
 returns-in-IndexKey-clause-row c = λ l. rw c.in-IndexKey.is (c.index_key_got.ensures.row c.args.fuel.now true l)
@@ -40,7 +42,8 @@ returns-in-Or-clause-row c = λ l.
     let n = names_of d in
     let h = rw c.in-Or.is at c.requires.frame in
     rw c.in-Or.is (Step-sure c.args.home true d
-    (expr_rest n (forms_at d c.args.home) c.args.home.0 (e.Or c.in-Or.at c.in-Or.right) (ValueAnswer (Resolve n c.args.x)) finished)
+    (expr_rest n (forms_at d c.args.home) c.args.home.0 (e.Or c.in-Or.at c.in-Or.right)
+    (ValueAnswer (Resolve n c.args.x)) finished)
     c.or_got.result c.args.fuel.now l (c.or_got.ensures.row))
 
 pub returns-in-And-clause-row : goal.returns-in-And-clause-row
@@ -49,7 +52,8 @@ returns-in-And-clause-row c = λ l.
     let n = names_of d in
     let h = rw c.in-And.is at c.requires.frame in
     rw c.in-And.is (Step-sure c.args.home true d
-    (expr_rest n (forms_at d c.args.home) c.args.home.0 (e.And c.in-And.at c.in-And.right) (ValueAnswer (Resolve n c.args.x)) finished)
+    (expr_rest n (forms_at d c.args.home) c.args.home.0 (e.And c.in-And.at c.in-And.right)
+    (ValueAnswer (Resolve n c.args.x)) finished)
     c.and_got.result c.args.fuel.now l (c.and_got.ensures.row))
 
 pub returns-in-Cond-clause-row : goal.returns-in-Cond-clause-row
@@ -58,7 +62,8 @@ returns-in-Cond-clause-row c = λ l.
     let n = names_of d in
     let h = rw c.in-Cond.is at c.requires.frame in
     rw c.in-Cond.is (Step-sure c.args.home true d
-    (expr_rest n (forms_at d c.args.home) c.args.home.0 (e.Cond c.in-Cond.at c.in-Cond.main c.in-Cond.other) (ValueAnswer (Resolve n c.args.x)) finished)
+    (expr_rest n (forms_at d c.args.home) c.args.home.0 (e.Cond c.in-Cond.at c.in-Cond.main c.in-Cond.other)
+    (ValueAnswer (Resolve n c.args.x)) finished)
     c.cond_got.result c.args.fuel.now l (c.cond_got.ensures.row))
 
 pub returns-in-Seq-clause-row : goal.returns-in-Seq-clause-row
@@ -85,14 +90,16 @@ returns-in-Left-clause-row c = λ l.
     let n = names_of d in
     let h = rw c.in-Left.is at c.requires.frame in
     rw c.in-Left.is (Step-sure c.args.home true d
-    (expr_rest n (forms_at d c.args.home) c.args.home.0 (e.Left c.in-Left.at c.in-Left.sign c.in-Left.right) (ValueAnswer (Resolve n c.args.x)) finished)
+    (expr_rest n (forms_at d c.args.home) c.args.home.0 (e.Left c.in-Left.at c.in-Left.sign c.in-Left.right)
+    (ValueAnswer (Resolve n c.args.x)) finished)
     c.left_got.result c.args.fuel.now l (c.left_got.ensures.row c.args.home d (h.0, h.1.0) c.requires.value))
 
 pub returns-in-Right-clause-row : goal.returns-in-Right-clause-row
 returns-in-Right-clause-row c = λ l. rw c.in-Right.is (c.right_got.ensures.row true l)
 
 pub returns-in-InstancePrototype-clause-row : goal.returns-in-InstancePrototype-clause-row
-returns-in-InstancePrototype-clause-row c = λ l. rw c.in-InstancePrototype.is (c.instance_prototype.ensures.row c.args.fuel.now true l)
+returns-in-InstancePrototype-clause-row c = λ l. rw c.in-InstancePrototype.is
+    (c.instance_prototype.ensures.row c.args.fuel.now true l)
 
 pub returns-in-Chain-clause-row : goal.returns-in-Chain-clause-row
 returns-in-Chain-clause-row c = λ l.
@@ -103,9 +110,12 @@ returns-in-Chain-clause-row c = λ l.
 
 pub resume_assigned-requires-clause-ours : goal.resume_assigned-requires-clause-ours
 resume_assigned-requires-clause-ours c =
-    assigning-is c.args.frame c.requires.ours c.in_default.not-Got c.in_default.not-MemberBase c.in_default.not-IndexBase
-    c.in_default.not-IndexKey c.in_default.not-Or c.in_default.not-And c.in_default.not-Cond c.in_default.not-Seq c.in_default.not-Not
-    c.in_default.not-Negate c.in_default.not-Typeof c.in_default.not-Left c.in_default.not-Right c.in_default.not-InstancePrototype
+    assigning-is c.args.frame c.requires.ours c.in_default.not-Got c.in_default.not-MemberBase
+    c.in_default.not-IndexBase
+    c.in_default.not-IndexKey c.in_default.not-Or c.in_default.not-And c.in_default.not-Cond c.in_default.not-Seq
+    c.in_default.not-Not
+    c.in_default.not-Negate c.in_default.not-Typeof c.in_default.not-Left c.in_default.not-Right
+    c.in_default.not-InstancePrototype
     c.in_default.not-Chain
 
 pub returns-in-Got-clause-keeps : goal.returns-in-Got-clause-keeps

@@ -14,7 +14,8 @@ returns-in-Chain-clause-row c = λ begun l.
     let d = c.args.w.now in
     let h = rw c.in-Chain.is at c.requires.task in
     rw c.in-Chain.is
-    (Step-sure c.args.home begun d (row (task_in (names_of d) c.args.home.0 (t.Chain c.in-Chain.object c.in-Chain.prototype)))
+    (Step-sure c.args.home begun d
+    (row (task_in (names_of d) c.args.home.0 (t.Chain c.in-Chain.object c.in-Chain.prototype)))
     c.chain.result c.args.fuel.now l (c.chain.ensures.row d h.0 h.1.0))
 
 pub returns-in-Evaluate-clause-keeps : goal.returns-in-Evaluate-clause-keeps

@@ -1,7 +1,8 @@
 use Rattle.std.proofs.Common.{◌∙◌, refl}
 use Rattle.std.proofs.lemmas.Result.{err_from_is_err_and}
-use Rattle.mb_eval_expr.proofs.Steadying.{given-is, ready-acts, step-kept, step-ready, taken}
-use Rattle.mb_eval_expr.proofs.TopFrames.{last-in, on-top, stepped, stopped}
+use Rattle.mb_eval_expr.proofs.Steadying.{given-is, step-kept, step-ready, took}
+use Rattle.mb_parts.proofs.Acting.{ready-acts}
+use Rattle.mb_parts.proofs.TopFrames.{last-in, on-top, stepped, stopped}
 use Rattle.mb_eval_expr.specs.Ours.{IsExpressionFrame}
 use Rattle.mb_frames.proofs.Apartness.{names-real}
 use Rattle.mb_frames.proofs.Steadying.{halt-keeps, top-holds, top-home}
@@ -13,14 +14,16 @@ use Rattle.mb_eval_expr.proofs.step.step_expr.Goals as goal
 pub take-requires-clause-acts : goal.take-requires-clause-acts
 take-requires-clause-acts c =
     ready-acts c.args.w.now c.in-Some.top.home c.requires.ready.world
-    (top-home c.args.w.now c.args.m.now c.pop.new.self.stack.items c.in-Some.top c.requires.ready c.in-Some.ensures.popped)
+    (top-home c.args.w.now c.args.m.now c.pop.new.self.stack.items c.in-Some.top c.requires.ready
+    c.in-Some.ensures.popped)
 
 pub take-requires-clause-real : goal.take-requires-clause-real
 take-requires-clause-real c = names-real c.args.w.now c.requires.ready.world
 
 pub take-requires-clause-frame : goal.take-requires-clause-frame
 take-requires-clause-frame c =
-    last-in (λ (y : Waiting). FrameIn c.args.w.now y.frame) c.args.m.now.stack.items c.pop.new.self.stack.items c.in-Some.top
+    last-in (λ (y : Waiting). FrameIn c.args.w.now y.frame) c.args.m.now.stack.items c.pop.new.self.stack.items
+    c.in-Some.top
     c.in-Some.ensures.popped c.requires.ready.formed.ids.frames
 
 pub take-requires-clause-done : goal.take-requires-clause-done
@@ -28,7 +31,8 @@ take-requires-clause-done c = rw (c.take-done.ensures.value, c.in-Some.ensures.d
 
 pub take-requires-clause-ours : goal.take-requires-clause-ours
 take-requires-clause-ours c =
-    on-top (λ (y : Waiting). IsExpressionFrame c.args.w.now y.home y.frame) c.args.m.now.stack.items c.pop.new.self.stack.items
+    on-top (λ (y : Waiting). IsExpressionFrame c.args.w.now y.home y.frame) c.args.m.now.stack.items
+    c.pop.new.self.stack.items
     c.in-Some.top c.in-Some.ensures.popped c.requires.top
 
 pub take-requires-clause-given : goal.take-requires-clause-given
@@ -47,7 +51,8 @@ returns-in_err-step-in-Some-clause-steps c =
     rw (p.1, p.2)
     (stopped c.in_err-step-in-Some.field-0.0 c.args.m.now _ c.args.w.now c.take.new.w c.args.fuel.now c.take.new.fuel
     (written c.args.lines.now) c.pop.new.self.stack.items c.in-Some.top c.take-done.result c.in-Some.ensures.popped
-    (c.take-done.ensures.value ∙ c.in-Some.ensures.done) (c.in_err-step-in-Some.ensures.step (written c.args.lines.now)))
+    (c.take-done.ensures.value ∙ c.in-Some.ensures.done) (c.in_err-step-in-Some.ensures.step
+    (written c.args.lines.now)))
 
 pub returns-in_err-step-in-Some-clause-ready : goal.returns-in_err-step-in-Some-clause-ready
 returns-in_err-step-in-Some-clause-ready c =
@@ -55,12 +60,11 @@ returns-in_err-step-in-Some-clause-ready c =
     let m = c.args.m.now in
     let below = c.pop.new.self.stack.items in
     let top = c.in-Some.top in
-    let h = c.requires.ready in
     let was = c.in-Some.ensures.popped in
-    let ended = c.take-done.ensures.value ∙ c.in-Some.ensures.done in
-    let ours = on-top (λ (y : Waiting). IsExpressionFrame d y.home y.frame) m.stack.items below top was c.requires.top in
-    let k = c.in_err-step-in-Some.ensures.keeps h.world (top-home d m below top h was)
-    (taken d m below top c.take-done.result h was ended ours) in
+    let ours = on-top (λ (y : Waiting). IsExpressionFrame d y.home y.frame) m.stack.items below top was
+    c.requires.top in
+    let k = took d m below top c.take-done.result c.requires.ready was
+    (c.take-done.ensures.value ∙ c.in-Some.ensures.done) ours c.take.new.w c.in_err-step-in-Some.ensures.keeps in
     let p = err_from_is_err_and c.from_residual.result c.from_residual.ensures.1 in
     rw p.1 k.changed.ready
 
@@ -70,14 +74,26 @@ returns-in_err-step-in-Some-clause-kept c =
     let m = c.args.m.now in
     let below = c.pop.new.self.stack.items in
     let top = c.in-Some.top in
-    let h = c.requires.ready in
     let was = c.in-Some.ensures.popped in
-    let ended = c.take-done.ensures.value ∙ c.in-Some.ensures.done in
-    let ours = on-top (λ (y : Waiting). IsExpressionFrame d y.home y.frame) m.stack.items below top was c.requires.top in
-    let k = c.in_err-step-in-Some.ensures.keeps h.world (top-home d m below top h was)
-    (taken d m below top c.take-done.result h was ended ours) in
+    let ours = on-top (λ (y : Waiting). IsExpressionFrame d y.home y.frame) m.stack.items below top was
+    c.requires.top in
+    let k = took d m below top c.take-done.result c.requires.ready was
+    (c.take-done.ensures.value ∙ c.in-Some.ensures.done) ours c.take.new.w c.in_err-step-in-Some.ensures.keeps in
     let p = err_from_is_err_and c.from_residual.result c.from_residual.ensures.1 in
     rw p.1 (halt-keeps p.0 m m d c.take.new.w below top was k.changed)
+
+pub returns-in_err-step-in-Some-clause-found : goal.returns-in_err-step-in-Some-clause-found
+returns-in_err-step-in-Some-clause-found c =
+    let d = c.args.w.now in
+    let m = c.args.m.now in
+    let below = c.pop.new.self.stack.items in
+    let top = c.in-Some.top in
+    let was = c.in-Some.ensures.popped in
+    let ours = on-top (λ (y : Waiting). IsExpressionFrame d y.home y.frame) m.stack.items below top was
+    c.requires.top in
+    let k = took d m below top c.take-done.result c.requires.ready was
+    (c.take-done.ensures.value ∙ c.in-Some.ensures.done) ours c.take.new.w c.in_err-step-in-Some.ensures.keeps in
+    k.changed.found
 
 pub returns-in_err-make-in-Some-clause-ready : goal.returns-in_err-make-in-Some-clause-ready
 returns-in_err-make-in-Some-clause-ready c =
@@ -85,13 +101,13 @@ returns-in_err-make-in-Some-clause-ready c =
     let m = c.args.m.now in
     let below = c.pop.new.self.stack.items in
     let top = c.in-Some.top in
-    let h = c.requires.ready in
     let was = c.in-Some.ensures.popped in
-    let ended = c.take-done.ensures.value ∙ c.in-Some.ensures.done in
-    let ours = on-top (λ (y : Waiting). IsExpressionFrame d y.home y.frame) m.stack.items below top was c.requires.top in
-    let k = c.in_ok-step-in-Some.ensures.keeps h.world (top-home d m below top h was)
-    (taken d m below top c.take-done.result h was ended ours) in
-    let p = err_from_is_err_and c.from_residual-in_err-make-in-Some.result c.from_residual-in_err-make-in-Some.ensures.1 in
+    let ours = on-top (λ (y : Waiting). IsExpressionFrame d y.home y.frame) m.stack.items below top was
+    c.requires.top in
+    let k = took d m below top c.take-done.result c.requires.ready was
+    (c.take-done.ensures.value ∙ c.in-Some.ensures.done) ours c.take.new.w c.in_ok-step-in-Some.ensures.keeps in
+    let p = err_from_is_err_and c.from_residual-in_err-make-in-Some.result
+    c.from_residual-in_err-make-in-Some.ensures.1 in
     rw p.1 k.changed.ready
 
 pub returns-in_err-make-in-Some-clause-kept : goal.returns-in_err-make-in-Some-clause-kept
@@ -100,14 +116,27 @@ returns-in_err-make-in-Some-clause-kept c =
     let m = c.args.m.now in
     let below = c.pop.new.self.stack.items in
     let top = c.in-Some.top in
-    let h = c.requires.ready in
     let was = c.in-Some.ensures.popped in
-    let ended = c.take-done.ensures.value ∙ c.in-Some.ensures.done in
-    let ours = on-top (λ (y : Waiting). IsExpressionFrame d y.home y.frame) m.stack.items below top was c.requires.top in
-    let k = c.in_ok-step-in-Some.ensures.keeps h.world (top-home d m below top h was)
-    (taken d m below top c.take-done.result h was ended ours) in
-    let p = err_from_is_err_and c.from_residual-in_err-make-in-Some.result c.from_residual-in_err-make-in-Some.ensures.1 in
+    let ours = on-top (λ (y : Waiting). IsExpressionFrame d y.home y.frame) m.stack.items below top was
+    c.requires.top in
+    let k = took d m below top c.take-done.result c.requires.ready was
+    (c.take-done.ensures.value ∙ c.in-Some.ensures.done) ours c.take.new.w c.in_ok-step-in-Some.ensures.keeps in
+    let p = err_from_is_err_and c.from_residual-in_err-make-in-Some.result
+    c.from_residual-in_err-make-in-Some.ensures.1 in
     rw p.1 (halt-keeps p.0 m m d c.take.new.w below top was k.changed)
+
+pub returns-in_err-make-in-Some-clause-found : goal.returns-in_err-make-in-Some-clause-found
+returns-in_err-make-in-Some-clause-found c =
+    let d = c.args.w.now in
+    let m = c.args.m.now in
+    let below = c.pop.new.self.stack.items in
+    let top = c.in-Some.top in
+    let was = c.in-Some.ensures.popped in
+    let ours = on-top (λ (y : Waiting). IsExpressionFrame d y.home y.frame) m.stack.items below top was
+    c.requires.top in
+    let k = took d m below top c.take-done.result c.requires.ready was
+    (c.take-done.ensures.value ∙ c.in-Some.ensures.done) ours c.take.new.w c.in_ok-step-in-Some.ensures.keeps in
+    k.changed.found
 
 pub returns-clause-steps : goal.returns-clause-steps
 returns-clause-steps c =
@@ -118,45 +147,49 @@ returns-clause-steps c =
     c.in_ok-step-in-Some.ensures.puts_none (c.in_ok-step-in-Some.ensures.step (written c.args.lines.now))
 
 pub returns-clause-ready : goal.returns-clause-ready
+unfolding returns-clause-steps
 returns-clause-ready c =
     let d = c.args.w.now in
     let m = c.args.m.now in
     let below = c.pop.new.self.stack.items in
     let top = c.in-Some.top in
-    let h = c.requires.ready in
     let was = c.in-Some.ensures.popped in
-    let ended = c.take-done.ensures.value ∙ c.in-Some.ensures.done in
-    let ours = on-top (λ (y : Waiting). IsExpressionFrame d y.home y.frame) m.stack.items below top was c.requires.top in
-    let k = c.in_ok-step-in-Some.ensures.keeps h.world (top-home d m below top h was)
-    (taken d m below top c.take-done.result h was ended ours) in
-    let q = stepped c.args.m.now c.make.new.self c.args.w.now c.take.new.w c.args.fuel.now c.take.new.fuel
-    (written c.args.lines.now) c.pop.new.self.stack.items c.in-Some.top c.take-done.result c.in_ok-step-in-Some.step
-    c.in-Some.ensures.popped c.in_ok-make-in-Some.ensures.is c.in_ok-make-in-Some.ensures.done
-    c.in_ok-make-in-Some.ensures.now (c.take-done.ensures.value ∙ c.in-Some.ensures.done)
-    c.in_ok-step-in-Some.ensures.puts_none (c.in_ok-step-in-Some.ensures.step (written c.args.lines.now)) in
+    let ours = on-top (λ (y : Waiting). IsExpressionFrame d y.home y.frame) m.stack.items below top was
+    c.requires.top in
+    let k = took d m below top c.take-done.result c.requires.ready was
+    (c.take-done.ensures.value ∙ c.in-Some.ensures.done) ours c.take.new.w c.in_ok-step-in-Some.ensures.keeps in
     step-ready m c.make.new.self d c.take.new.w c.args.fuel.now c.take.new.fuel (written c.args.lines.now)
-    (written c.args.lines.now) q h c.in_ok-step-in-Some.step refl ours k
+    (written c.args.lines.now) (returns-clause-steps c) c.requires.ready c.in_ok-step-in-Some.step refl ours k
 
 pub returns-clause-kept : goal.returns-clause-kept
+unfolding returns-clause-steps
 returns-clause-kept c =
     let d = c.args.w.now in
     let m = c.args.m.now in
     let below = c.pop.new.self.stack.items in
     let top = c.in-Some.top in
-    let h = c.requires.ready in
     let was = c.in-Some.ensures.popped in
-    let ended = c.take-done.ensures.value ∙ c.in-Some.ensures.done in
-    let ours = on-top (λ (y : Waiting). IsExpressionFrame d y.home y.frame) m.stack.items below top was c.requires.top in
-    let k = c.in_ok-step-in-Some.ensures.keeps h.world (top-home d m below top h was)
-    (taken d m below top c.take-done.result h was ended ours) in
-    let q = stepped c.args.m.now c.make.new.self c.args.w.now c.take.new.w c.args.fuel.now c.take.new.fuel
-    (written c.args.lines.now) c.pop.new.self.stack.items c.in-Some.top c.take-done.result c.in_ok-step-in-Some.step
-    c.in-Some.ensures.popped c.in_ok-make-in-Some.ensures.is c.in_ok-make-in-Some.ensures.done
-    c.in_ok-make-in-Some.ensures.now (c.take-done.ensures.value ∙ c.in-Some.ensures.done)
-    c.in_ok-step-in-Some.ensures.puts_none (c.in_ok-step-in-Some.ensures.step (written c.args.lines.now)) in
+    let ours = on-top (λ (y : Waiting). IsExpressionFrame d y.home y.frame) m.stack.items below top was
+    c.requires.top in
+    let k = took d m below top c.take-done.result c.requires.ready was
+    (c.take-done.ensures.value ∙ c.in-Some.ensures.done) ours c.take.new.w c.in_ok-step-in-Some.ensures.keeps in
     step-kept m c.make.new.self d c.take.new.w c.args.fuel.now c.take.new.fuel (written c.args.lines.now)
-    (written c.args.lines.now) q h c.in_ok-step-in-Some.step refl ours k
+    (written c.args.lines.now) (returns-clause-steps c) c.requires.ready c.in_ok-step-in-Some.step refl ours k
+
+pub returns-clause-found : goal.returns-clause-found
+returns-clause-found c =
+    let d = c.args.w.now in
+    let m = c.args.m.now in
+    let below = c.pop.new.self.stack.items in
+    let top = c.in-Some.top in
+    let was = c.in-Some.ensures.popped in
+    let ours = on-top (λ (y : Waiting). IsExpressionFrame d y.home y.frame) m.stack.items below top was
+    c.requires.top in
+    let k = took d m below top c.take-done.result c.requires.ready was
+    (c.take-done.ensures.value ∙ c.in-Some.ensures.done) ours c.take.new.w c.in_ok-step-in-Some.ensures.keeps in
+    k.changed.found
 
 pub take-requires-clause-held : goal.take-requires-clause-held
 take-requires-clause-held c =
-    top-holds c.args.w.now c.args.m.now c.pop.new.self.stack.items c.in-Some.top c.requires.ready c.in-Some.ensures.popped
+    top-holds c.args.w.now c.args.m.now c.pop.new.self.stack.items c.in-Some.top c.requires.ready
+    c.in-Some.ensures.popped

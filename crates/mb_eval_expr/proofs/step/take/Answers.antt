@@ -1,5 +1,5 @@
 use Rattle.std.proofs.Common.{◌-◌, ◌∷◌, ◌≡◌, ◌≤◌, [], arith, false, true}
-use Rattle.mb_eval_expr.proofs.Keeping.{holds-second, kept-left}
+use Rattle.mb_eval_expr.proofs.Keeping.{kept-left}
 use Rattle.mb_frames.proofs.Keeping.{leaves-throw}
 use Rattle.mb_frames.proofs.Steps.{Sure-throw}
 use Rattle.mb_frames.specs.Held.{HeldValue}
@@ -15,7 +15,7 @@ use Rattle.mb_frames.specs.declared.frame.Move.TheVariants as move
 use Rattle.mb_model.specs.Meaning.{finished, row}
 use Rattle.mb_world.specs.Image.{Resolve, names_of}
 use Rattle.std.proofs.lemmas.Result.{err_from_is_err_and}
-use Rattle.mb_frames.proofs.Parts.{all-first}
+use Rattle.mb_frames.proofs.Parts.{all-first, all-second}
 use Rattle.mb_frames.proofs.Readying.{changed-same}
 use Rattle.mb_frames.specs.Holding.{done_held, expr_held, task_held}
 use Rattle.mb_frames.specs.Ready.{MayHold}
@@ -46,7 +46,8 @@ returns-in-Anew-clause-step c = λ l. rw c.in-Anew.is (c.start-in-Anew.ensures.r
 pub returns-in-Anew-clause-puts_none : goal.returns-in-Anew-clause-puts_none
 returns-in-Anew-clause-puts_none c =
     let d = c.args.w.now in
-    puts-none c.args.home c.start-in-Anew.result d c.start-in-Anew.new.w c.args.fuel.now c.start-in-Anew.new.fuel no-lines no-lines
+    puts-none c.args.home c.start-in-Anew.result d c.start-in-Anew.new.w c.args.fuel.now c.start-in-Anew.new.fuel
+    no-lines no-lines
     (row (task_in (names_of d) c.args.home.0 c.in-Anew.task)) (c.start-in-Anew.ensures.row true no-lines)
 
 pub returns-in-Normal-clause-step : goal.returns-in-Normal-clause-step
@@ -56,7 +57,8 @@ pub returns-in-Normal-clause-puts_none : goal.returns-in-Normal-clause-puts_none
 returns-in-Normal-clause-puts_none c =
     let d = c.args.w.now in
     puts-none c.args.home c.resume.result d c.resume.new.w c.args.fuel.now c.resume.new.fuel no-lines no-lines
-    (expr_rest (names_of d) (forms_at d c.args.home) c.args.home.0 c.in-Expr.frame (answer_in (names_of d) c.in-Normal.answer) finished)
+    (expr_rest (names_of d) (forms_at d c.args.home) c.args.home.0 c.in-Expr.frame
+    (answer_in (names_of d) c.in-Normal.answer) finished)
     (c.resume.ensures.row no-lines)
 
 pub returns-in-Throw-clause-step : goal.returns-in-Throw-clause-step
@@ -74,7 +76,7 @@ returns-in-Throw-clause-keeps c = λ r i h.
     let home = c.args.home in
     let k = rw (c.in-Expr.is, c.in-Some.is, c.in-Throw.is) at h in
     kept-left home d r (leaves-throw d home AValue c.in-Throw.x
-    (holds-second d home (expr_held c.in-Expr.frame) (HeldValue c.in-Throw.x ∷ []) k).0)
+    (all-second (MayHold d home) (expr_held c.in-Expr.frame) (HeldValue c.in-Throw.x ∷ []) k).0)
 
 pub returns-in_err-charge-in-Begin-clause-keeps : goal.returns-in_err-charge-in-Begin-clause-keeps
 returns-in_err-charge-in-Begin-clause-keeps c = λ r i h.
@@ -84,12 +86,14 @@ returns-in_err-charge-in-Begin-clause-keeps c = λ r i h.
 pub returns-in_ok-charge-in-Begin-clause-keeps : goal.returns-in_ok-charge-in-Begin-clause-keeps
 returns-in_ok-charge-in-Begin-clause-keeps c = λ r i h.
     c.start.ensures.keeps r i
-    (all-first (MayHold c.args.w.now c.args.home) (task_held c.in-Begin.task) (done_held c.args.done) (rw c.in-Begin.is at h))
+    (all-first (MayHold c.args.w.now c.args.home) (task_held c.in-Begin.task) (done_held c.args.done)
+    (rw c.in-Begin.is at h))
 
 pub returns-in-Anew-clause-keeps : goal.returns-in-Anew-clause-keeps
 returns-in-Anew-clause-keeps c = λ r i h.
     c.start-in-Anew.ensures.keeps r i
-    (all-first (MayHold c.args.w.now c.args.home) (task_held c.in-Anew.task) (done_held c.args.done) (rw c.in-Anew.is at h))
+    (all-first (MayHold c.args.w.now c.args.home) (task_held c.in-Anew.task) (done_held c.args.done)
+    (rw c.in-Anew.is at h))
 
 pub returns-in-Normal-clause-keeps : goal.returns-in-Normal-clause-keeps
 returns-in-Normal-clause-keeps c = λ r i h.

@@ -10,18 +10,20 @@ returns-in-Name-clause-row c = λ f o q. rw (rw c.in-Name.is at q) (c.follow.ens
 
 pub returns-in-Member-clause-row : goal.returns-in-Member-clause-row
 returns-in-Member-clause-row c = λ f o q.
-    rw (rw c.in-Member.is at q) (Part-member c.args.home c.args.w.now c.args.at 0 c.args.after c.requires.acts.runs.takes_part f
+    rw (rw c.in-Member.is at q) (Part-member c.args.home c.args.w.now c.args.at 0 c.args.after
+    c.requires.acts.runs.takes_part f
     c.in-Member.base c.in-Member.name c.requires.at (rw c.in-Member.is at c.requires.target) c.requires.after)
 
 pub returns-in-Index-clause-row : goal.returns-in-Index-clause-row
 returns-in-Index-clause-row c = λ f o q.
-    rw (rw c.in-Index.is at q) (Part-index c.args.home c.args.w.now c.args.at 0 c.args.after c.requires.acts.runs.takes_part f
+    rw (rw c.in-Index.is at q) (Part-index c.args.home c.args.w.now c.args.at 0 c.args.after
+    c.requires.acts.runs.takes_part f
     c.in-Index.base c.in-Index.key c.requires.at c.requires.after)
 
 pub returns-in-Other-clause-row : goal.returns-in-Other-clause-row
 returns-in-Other-clause-row c = λ f o q.
     Part-other c.args.home c.args.w.now c.args.at 0 c.args.after c.requires.acts.runs.takes_part
-    c.type_error.result c.type_error.new.w f o (rw c.in-Other.is at q) (c.type_error.ensures.row f)
+    c.type_error.result c.type_error.new.w f o (rw c.in-Other.is at q) (c.type_error.ensures.part f)
 
 pub returns-in-Name-clause-keeps : goal.returns-in-Name-clause-keeps
 returns-in-Name-clause-keeps c = λ r i h. c.follow.ensures.keeps r i (h.0, (h.1.0, rw c.in-Name.is at h.1.1))

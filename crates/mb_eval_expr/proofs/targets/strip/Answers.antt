@@ -19,7 +19,8 @@ loop-step-preserved c =
     = sym c.in-Some.ensures.form ∙ ap (λ (x : Given). Some (told_at d c.args.home (seen x))) c.in-Group.is in
     record {
       gone = Gone-more (layers_at d c.args.home c.args.node.0) c.loop-step.step c.in-Group.inner.0
-          (layers_from (c.count-step-end.result - c.loop-step.step) fs c.loop-step.at.0) (layers_from m fs c.in-Group.inner.0)
+          (layers_from (c.count-step-end.result - c.loop-step.step) fs c.loop-step.at.0)
+          (layers_from m fs c.in-Group.inner.0)
           c.loop-step.invariant.gone
           (ap (λ j. layers_from j fs c.loop-step.at.0) k ∙ layers-group fs m c.loop-step.at.0 c.in-Group.inner.0 e);
       all = c.loop-step.invariant.all;
@@ -32,10 +33,12 @@ returns-in_default c =
     let m : ℕ = c.count-step-end.result - (c.loop-step.step + 1) in
     let k : c.count-step-end.result - c.loop-step.step ≡ suc m = omega arith in
     let q = Gone-last (layers_at d c.args.home c.args.node.0) c.loop-step.step
-    (layers_from (c.count-step-end.result - c.loop-step.step) fs c.loop-step.at.0) (told_at d c.args.home (seen c.in-Some.form))
+    (layers_from (c.count-step-end.result - c.loop-step.step) fs c.loop-step.at.0)
+    (told_at d c.args.home (seen c.in-Some.form))
     c.loop-step.invariant.gone
     (ap (λ j. layers_from j fs c.loop-step.at.0) k
-    ∙ layers-other d c.args.home c.in-Some.form fs m c.loop-step.at.0 (sym c.in-Some.ensures.form) c.in_default.not-Group) in
+    ∙ layers-other d c.args.home c.in-Some.form fs m c.loop-step.at.0 (sym c.in-Some.ensures.form)
+    c.in_default.not-Group) in
     record {
       target = subst (targeted d c.target_of.result) (sym q.1) (c.target_of.ensures.target c.args.home d);
       nodes = sym q.0;

@@ -7,6 +7,7 @@ use Rattle.mb_eval_expr.proofs.targets.strip.Given as goal
 
 abbrev pub invariant-loop-step : goal.invariant-loop-step
 invariant-loop-step l = record {
-  gone : Gone (layers_at l.w l.home l.fn.node.0) l.step (layers_from (l.step-end - l.step) (forms_at l.w l.home) l.at.0);
+  gone : Gone (layers_at l.w l.home l.fn.node.0) l.step (layers_from (l.step-end - l.step) (forms_at l.w l.home)
+      l.at.0);
   all : l.step-end ≡ length (forms_at l.w l.home);
 }

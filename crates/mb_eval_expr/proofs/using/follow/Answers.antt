@@ -3,8 +3,10 @@ use Rattle.std.proofs.Common.{refl}
 use Rattle.mb_frames.specs.Holding.{after_held, expr_held, reference_held}
 use Rattle.mb_frames.specs.declared.expressions.ExprFrame.TheVariants as e
 use Rattle.mb_frames.specs.Sorts.{AValue}
-use Rattle.mb_eval_expr.proofs.Keeping.{holds-both, holds-first, holds-second, kept-left, waits-node}
+use Rattle.mb_eval_expr.proofs.Keeping.{kept-left, waits-node}
 use Rattle.mb_eval_expr.proofs.Referring.{Part-assign}
+use Rattle.mb_frames.proofs.Parts.{all-both, all-first, all-second}
+use Rattle.mb_frames.specs.Ready.{MayHold}
 use Rattle.mb_eval_expr.proofs.using.follow.Goals as goal
 
 pub returns-in-Get-clause-row : goal.returns-in-Get-clause-row
@@ -12,7 +14,8 @@ returns-in-Get-clause-row c = λ f. rw c.in-Get.is (c.get_value.ensures.row f)
 
 pub returns-in-Assign-clause-row : goal.returns-in-Assign-clause-row
 returns-in-Assign-clause-row c = λ f.
-    rw c.in-Assign.is (Part-assign c.args.home c.args.w.now f c.args.at c.args.to c.in-Assign.value c.requires.at c.requires.to)
+    rw c.in-Assign.is (Part-assign c.args.home c.args.w.now f c.args.at c.args.to c.in-Assign.value c.requires.at
+    c.requires.to)
 
 pub returns-in-Compound-clause-row : goal.returns-in-Compound-clause-row
 returns-in-Compound-clause-row c = λ f. rw c.in-Compound.is (c.get_value-in-Compound.ensures.row f)
@@ -34,8 +37,8 @@ returns-in-Assign-clause-keeps c = λ r i h.
     let a = after_held (after.Assign c.in-Assign.value) in
     kept-left o d r
     (waits-node d o (e.AssignValue c.args.at c.args.to) c.in-Assign.value c.args.at refl
-    (h.0, (h.1.0, holds-first d o (reference_held c.args.to) a k)) (h.0, (h.1.0, tt))
-    (holds-second d o (reference_held c.args.to) a k).0)
+    (h.0, (h.1.0, all-first (MayHold d o) (reference_held c.args.to) a k)) (h.0, (h.1.0, tt))
+    (all-second (MayHold d o) (reference_held c.args.to) a k).0)
 
 pub returns-in-Compound-clause-keeps : goal.returns-in-Compound-clause-keeps
 returns-in-Compound-clause-keeps c = λ r i h.
@@ -43,13 +46,13 @@ returns-in-Compound-clause-keeps c = λ r i h.
     let o = c.args.home in
     let k = rw c.in-Compound.is at h.1.1 in
     let a = after_held (after.Compound c.in-Compound.sign c.in-Compound.value) in
-    let f = holds-first d o (reference_held c.args.to) a k in
-    let s = holds-second d o (reference_held c.args.to) a k in
+    let f = all-first (MayHold d o) (reference_held c.args.to) a k in
+    let s = all-second (MayHold d o) (reference_held c.args.to) a k in
     c.get_value-in-Compound.ensures.keeps r i (
       h.0,
       (
         h.1.0,
-        holds-both d o (reference_held c.args.to)
+        all-both (MayHold d o) (reference_held c.args.to)
             (expr_held (e.CompoundOld c.args.at c.in-Compound.sign c.in-Compound.value c.args.to)) f
             (h.0, (h.1.0, (s.0, (s.1.0, f)))),
       ),
@@ -60,12 +63,13 @@ returns-in-Update-clause-keeps c = λ r i h.
     let d = c.args.w.now in
     let o = c.args.home in
     let k = rw c.in-Update.is at h.1.1 in
-    let f = holds-first d o (reference_held c.args.to) (after_held (after.Update c.in-Update.plus c.in-Update.prefix)) k in
+    let f = all-first (MayHold d o) (reference_held c.args.to)
+    (after_held (after.Update c.in-Update.plus c.in-Update.prefix)) k in
     c.get_value-in-Update.ensures.keeps r i (
       h.0,
       (
         h.1.0,
-        holds-both d o (reference_held c.args.to)
+        all-both (MayHold d o) (reference_held c.args.to)
             (expr_held (e.UpdateOld c.args.at c.in-Update.plus c.in-Update.prefix c.args.to)) f (h.0, (h.1.0, f)),
       ),
     )

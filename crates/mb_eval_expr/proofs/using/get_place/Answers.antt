@@ -4,9 +4,9 @@ use Rattle.mb_frames.specs.Holding.{expr_held}
 use Rattle.std.proofs.lemmas.Result.{err_from_is_err_and}
 use Rattle.mb_frames.specs.Sorts.{AValue}
 use Rattle.mb_frames.specs.Ready.{Changed}
-use Rattle.mb_eval_expr.proofs.Texting.{texts-changed}
+use Rattle.mb_parts.proofs.Texting.{texts-changed}
 use Rattle.mb_frames.proofs.Leaving.{holds-still}
-use Rattle.mb_eval_expr.proofs.Keeping.{kept-left, kept-still, kept-then, object-held, plain-held, use-waits, waits-asks}
+use Rattle.mb_eval_expr.proofs.Keeping.{kept-left, kept-still, kept-then, plain-held, use-waits, waits-asks}
 use Rattle.mb_frames.proofs.Keeping.{inside-still}
 use Rattle.std.proofs.Common.{ap, refl, sym, ◌∙◌}
 use Rattle.mb_frames.proofs.Passed.{Part-passed, Passes-texts}
@@ -20,18 +20,20 @@ use Rattle.mb_world.specs.Data.{Data}
 use Rattle.mb_world.specs.Image.{Image, Resolve, key_in, names_of, text_in}
 use Rattle.mb_world.specs.Value.{Text}
 use Rattle.mb_eval_expr.proofs.Referring.{Part-get, used-grows}
+use Rattle.mb_frames.proofs.HeldLess.{value-object}
 use Rattle.mb_eval_expr.proofs.using.get_place.Goals as goal
 
 pub returns-in-Object-clause-row : goal.returns-in-Object-clause-row
 returns-in-Object-clause-row c = λ f.
-    rw c.in-Object.is (Part-get c.args.home c.args.w.now f c.in-Object.object c.args.key c.args.next c.frame_of.result c.asks.result
+    rw c.in-Object.is (Part-get c.args.home c.args.w.now f c.in-Object.object c.args.key c.args.next
+    c.frame_of.result c.asks.result
     c.frame_of.ensures c.asks.ensures (rw c.in-Object.is at c.requires.base) c.requires.key c.requires.next)
 
 pub returns-in-Undefined-clause-row : goal.returns-in-Undefined-clause-row
-returns-in-Undefined-clause-row c = λ f. rw c.in-Undefined.is (c.type_error.ensures.row f)
+returns-in-Undefined-clause-row c = λ f. rw c.in-Undefined.is (c.type_error.ensures.part f)
 
 pub returns-in-Null-clause-row : goal.returns-in-Null-clause-row
-returns-in-Null-clause-row c = λ f. rw c.in-Null.is (c.type_error-in-Null.ensures.row f)
+returns-in-Null-clause-row c = λ f. rw c.in-Null.is (c.type_error-in-Null.ensures.part f)
 
 pub returns-in-Bool-clause-row : goal.returns-in-Bool-clause-row
 returns-in-Bool-clause-row c = λ f. rw c.in-Bool.is (c.used-in-Bool.ensures.row f)
@@ -49,10 +51,13 @@ returns-in_ok-x-in-Text-clause-row c = λ f.
     let n = names_of d in
     let t : TextsGrew d d' = c.in_ok-x-in-Text.ensures.grew in
     rw c.in-Text.is (Part-passed c.args.home c.used.result d d' c.used.new.w f f f
-    ((getv c.args.home.0 (Text (text_in n c.in-Text.text)) (key_in n c.args.key) >>= used d c.args.home c.args.next) finished)
+    ((getv c.args.home.0 (Text (text_in n c.in-Text.text)) (key_in n c.args.key) >>= used d c.args.home c.args.next)
+    finished)
     (used d' c.args.home c.args.next (Resolve (names_of d') c.in_ok-x-in-Text.x) finished)
     (Passes-texts d d' f _ _ t (λ log.
-    ap (λ (p : Does Answer). p finished (Image d log)) (sym (used-grows d d' c.args.home c.requires.acts.ids t c.args.next c.requires.next (text_property (text_in n c.in-Text.text) (key_in n c.args.key)))
+    ap (λ (p : Does Answer). p finished (Image d log))
+    (sym (used-grows d d' c.args.home c.requires.acts.ids t c.args.next c.requires.next
+    (text_property (text_in n c.in-Text.text) (key_in n c.args.key)))
     ∙ ap (used d' c.args.home c.args.next) (sym c.in_ok-x-in-Text.ensures.value))))
     (c.used.ensures.row f))
 
@@ -63,7 +68,7 @@ returns-in-Object-clause-keeps c = λ r i h.
     let b = rw c.in-Object.is at h.0 in
     rw (c.frame_of.ensures, c.asks.ensures) (kept-left c.args.home d r
     (waits-asks d c.args.home y (m.Get c.args.key (v.Object c.in-Object.object)) c.in-Object.object
-    (rw (use-waits c.args.next) refl) h.1.1 (object-held d c.args.home c.in-Object.object b) (h.1.0, (b, tt))))
+    (rw (use-waits c.args.next) refl) h.1.1 (value-object d c.args.home c.in-Object.object b) (h.1.0, (b, tt))))
 
 pub returns-in-Undefined-clause-keeps : goal.returns-in-Undefined-clause-keeps
 returns-in-Undefined-clause-keeps c = λ r i h. c.type_error.ensures.keeps AValue r i tt

@@ -9,7 +9,8 @@ use Rattle.mb_eval_expr.proofs.using.used.Goals as goal
 pub returns-in-Give-clause-row : goal.returns-in-Give-clause-row
 returns-in-Give-clause-row c = λ f.
     let d = c.args.w.now in
-    rw c.in-Give.is (Part-sure c.args.home d f (used d c.args.home u.Give (Resolve (names_of d) c.args.x) finished) c.value.result
+    rw c.in-Give.is (Part-sure c.args.home d f (used d c.args.home u.Give (Resolve (names_of d) c.args.x) finished)
+    c.value.result
     (c.value.ensures.row c.args.home d c.requires.value))
 
 pub returns-in-Compound-clause-row : goal.returns-in-Compound-clause-row
@@ -17,7 +18,8 @@ returns-in-Compound-clause-row c = λ f.
     let d = c.args.w.now in
     let h = rw c.in-Compound.is at c.requires.next in
     rw c.in-Compound.is (Part-sure c.args.home d f
-    (used d c.args.home (u.Compound c.in-Compound.at c.in-Compound.sign c.in-Compound.value c.in-Compound.to) (Resolve (names_of d) c.args.x) finished)
+    (used d c.args.home (u.Compound c.in-Compound.at c.in-Compound.sign c.in-Compound.value c.in-Compound.to)
+    (Resolve (names_of d) c.args.x) finished)
     c.compound_old.result
     (c.compound_old.ensures.row c.args.home d (h.0, h.1.0) h.1.1.1.1 c.requires.value))
 

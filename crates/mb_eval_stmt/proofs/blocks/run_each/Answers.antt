@@ -21,15 +21,18 @@ pub returns-in_ok-next-in-Some-clause-row : goal.returns-in_ok-next-in-Some-clau
 returns-in_ok-next-in-Some-clause-row c = λ begun f l.
     let d = c.args.w.now in
     Step-sure c.args.home begun d
-    (run_each (context_in (names_of d) c.args.home.0 c.args.at) (drop c.args.next (parts_at (forms_at d c.args.home) c.args.node.0)) finished)
+    (run_each (context_in (names_of d) c.args.home.0 c.args.at)
+    (drop c.args.next (parts_at (forms_at d c.args.home) c.args.node.0)) finished)
     _ f l
-    (each-next d c.args.home c.args.at c.args.node c.in-Some.part c.args.next c.in_ok-next-in-Some.next c.requires.context (sym c.in-Some.ensures.part) c.in_ok-next-in-Some.ensures)
+    (each-next d c.args.home c.args.at c.args.node c.in-Some.part c.args.next c.in_ok-next-in-Some.next
+    c.requires.context (sym c.in-Some.ensures.part) c.in_ok-next-in-Some.ensures)
 
 pub returns-in-None-clause-row : goal.returns-in-None-clause-row
 returns-in-None-clause-row c = λ begun f l.
     let d = c.args.w.now in
     Step-sure c.args.home begun d
-    (run_each (context_in (names_of d) c.args.home.0 c.args.at) (drop c.args.next (parts_at (forms_at d c.args.home) c.args.node.0)) finished)
+    (run_each (context_in (names_of d) c.args.home.0 c.args.at)
+    (drop c.args.next (parts_at (forms_at d c.args.home) c.args.node.0)) finished)
     _ f l
     (each-done d c.args.home c.args.at c.args.node c.args.next (sym c.in-None.ensures.part))
 

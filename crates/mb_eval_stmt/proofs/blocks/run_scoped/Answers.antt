@@ -16,8 +16,10 @@ use Rattle.mb_frames.specs.Held.{HeldNode}
 use Rattle.mb_frames.specs.Kinds.{is_list_form}
 use Rattle.mb_eval_stmt.specs.machine.Keeping.{context_held}
 use Rattle.mb_frames.specs.Keeping.{none_held, scope_held}
-use Rattle.mb_eval_stmt.proofs.Keeping.{entered-then, keeps-by, keeps-halts, keeps-then, list-statement}
+use Rattle.mb_eval_stmt.proofs.Keeping.{entered-then, keeps-by, keeps-then, list-statement}
+use Rattle.mb_parts.proofs.Answering.{keeps-halts}
 use Rattle.mb_eval_stmt.proofs.Rows.{inside}
+use Rattle.mb_frames.specs.Sorts.{ACompletion}
 use Rattle.mb_eval_stmt.proofs.blocks.run_scoped.Goals as goal
 
 pub returns-in_err-scope-clause-row : goal.returns-in_err-scope-clause-row
@@ -27,7 +29,8 @@ returns-in_err-scope-clause-row c = λ begun l.
     let ps = parts_at (forms_at d c.args.home) c.args.node.0 in
     let p = err_from_is_err_and c.from_residual.result c.from_residual.ensures.1 in
     rw (p.1, p.2)
-    (Step-unentered c.args.home begun c.in_err-scope.field-0.0 d c.enter_scope.new.w c.args.fuel.now c.enter_scope.new.fuel l
+    (Step-unentered c.args.home begun c.in_err-scope.field-0.0 d c.enter_scope.new.w c.args.fuel.now
+    c.enter_scope.new.fuel l
     (enter_scope c.args.home.0 c.args.at.scope.0 c.args.node.0)
     (λ sc. (declare c.args.home.0 sc ps >>= (λ a. run_each (with_scope x sc) ps)) finished)
     c.in_err-scope.ensures.enters)
@@ -44,7 +47,7 @@ returns-in_err-scope-clause-keeps c = λ r i h.
     let n = list-statement (slice_get (forms_at c.args.w.now c.args.home) c.args.node.0) h.1.1.0.sound in
     let p = err_from_is_err_and c.from_residual.result c.from_residual.ensures.1 in
     rw (p.1, p.2)
-    (keeps-halts scope_held c.args.home c.in_err-scope.field-0.0 c.args.w.now c.enter_scope.new.w
+    (keeps-halts scope_held c.args.home ACompletion c.in_err-scope.field-0.0 c.args.w.now c.enter_scope.new.w
     (c.in_err-scope.ensures.keeps n r i (h.0, tt)))
 
 pub returns-in_err-declare-clause-keeps : goal.returns-in_err-declare-clause-keeps
@@ -56,7 +59,7 @@ returns-in_err-declare-clause-keeps c = λ r i h.
     rw (p.1, p.2)
     (entered-then home (Err c.in_err-declare.field-0.0) c.args.w.now c.enter_scope.new.w c.declare.new.w c.args.at
     c.in_ok-scope.scope r i (h.0, (h.1.0, tt)) k
-    (λ s m z. keeps-halts none_held home c.in_err-declare.field-0.0 c.enter_scope.new.w c.declare.new.w
+    (λ s m z. keeps-halts none_held home ACompletion c.in_err-declare.field-0.0 c.enter_scope.new.w c.declare.new.w
     (c.in_err-declare.ensures.keeps s m (z.0, tt))))
 
 pub returns-clause-keeps : goal.returns-clause-keeps

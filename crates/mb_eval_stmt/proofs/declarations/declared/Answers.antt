@@ -8,8 +8,10 @@ use Rattle.mb_frames.specs.Held.{HeldNode}
 use Rattle.mb_frames.specs.Kinds.{is_declaring_form}
 use Rattle.mb_eval_stmt.specs.machine.Keeping.{context_held}
 use Rattle.mb_frames.specs.Keeping.{none_held}
-use Rattle.mb_eval_stmt.proofs.Keeping.{keeps-halts, keeps-then}
+use Rattle.mb_eval_stmt.proofs.Keeping.{keeps-then}
+use Rattle.mb_parts.proofs.Answering.{keeps-halts}
 use Rattle.mb_frames.proofs.Keeping.{inside-still}
+use Rattle.mb_frames.specs.Sorts.{ACompletion}
 use Rattle.mb_eval_stmt.proofs.declarations.declared.Goals as goal
 
 pub returns-clause-row : goal.returns-clause-row
@@ -23,7 +25,7 @@ pub returns-in_err-initialize-clause-keeps : goal.returns-in_err-initialize-clau
 returns-in_err-initialize-clause-keeps c = λ r i h.
     let p = err_from_is_err_and c.from_residual.result c.from_residual.ensures.1 in
     rw (p.1, p.2)
-    (keeps-halts none_held c.args.home c.in_err-initialize.field-0.0 c.args.w.now c.initialize.new.w
+    (keeps-halts none_held c.args.home ACompletion c.in_err-initialize.field-0.0 c.args.w.now c.initialize.new.w
     (c.in_err-initialize.ensures.keeps c.args.home r i (h.0, (h.1.1.1.0, (h.1.1.1.1.0, tt)))))
 
 pub returns-clause-keeps : goal.returns-clause-keeps

@@ -8,7 +8,8 @@ use Rattle.mb_model.specs.Meaning.{finished}
 use Rattle.mb_model.specs.Nodes.Statements.{give_each}
 use Rattle.mb_world.specs.Image.{Resolve, names_of}
 use Rattle.mb_frames.proofs.Forms.{CanRun-grows}
-use Rattle.mb_eval_stmt.proofs.Giving.{Step-all, Step-undeclared, Step-waits, given-more, given-of, not-past, parts-grow, waits-of}
+use Rattle.mb_eval_stmt.proofs.Giving.{Step-all, Step-undeclared, Step-waits, given-more, given-of, parts-grow, waits-of}
+use Rattle.mb_parts.proofs.Places.{not-past}
 use Rattle.mb_base.specs.declared.value.NodeId.{NodeId}
 use Rattle.mb_base.specs.declared.value.StrId.{StrId}
 use Rattle.mb_frames.proofs.Leaving.{holds-still}
@@ -20,14 +21,17 @@ use Rattle.mb_frames.specs.Ready.{Holds}
 use Rattle.mb_frames.specs.declared.statements.StmtFrame.TheVariants as y
 use Rattle.mb_eval_stmt.specs.machine.Keeping.{context_held, declared_held}
 use Rattle.mb_frames.specs.Keeping.{scope_held}
-use Rattle.mb_eval_stmt.proofs.Keeping.{keeps-halts, keeps-same, keeps-then}
+use Rattle.mb_eval_stmt.proofs.Keeping.{keeps-same, keeps-then}
+use Rattle.mb_parts.proofs.Answering.{keeps-halts}
 use Rattle.mb_frames.proofs.Keeping.{inside-still}
 use Rattle.mb_eval_stmt.proofs.Leaving.{ends-nothing, waits-value}
+use Rattle.mb_frames.specs.Sorts.{ACompletion}
 use Rattle.mb_eval_stmt.proofs.declarations.give_each.Goals as goal
 
 pub part_at-requires : goal.part_at-requires
 part_at-requires c =
-    CanRun-grows c.args.w.now c.loop-place.w c.args.home c.loop-place.invariant.grew c.loop-place.invariant.ids c.requires.world
+    CanRun-grows c.args.w.now c.loop-place.w c.args.home c.loop-place.invariant.grew c.loop-place.invariant.ids
+    c.requires.world
 
 pub returns-in_err-name-in-Some-clause-row : goal.returns-in_err-name-in-Some-clause-row
 returns-in_err-name-in-Some-clause-row c = λ begun f l.
@@ -110,7 +114,7 @@ returns-in_err-name-in-Some-clause-keeps c = λ r i h.
     let p = err_from_is_err_and c.from_residual.result c.from_residual.ensures.1 in
     rw (p.1, p.2)
     (keeps-then home (Err c.in_err-name-in-Some.field-0.0) d c.loop-place.w c.give_one.new.w k
-    (keeps-halts declared_held home c.in_err-name-in-Some.field-0.0 c.loop-place.w c.give_one.new.w
+    (keeps-halts declared_held home ACompletion c.in_err-name-in-Some.field-0.0 c.loop-place.w c.give_one.new.w
     (c.in_err-name-in-Some.ensures.keeps k.ready (inside-still home d c.loop-place.w k i) s)))
 
 pub returns-in_err-next-in-Some-2-clause-keeps : goal.returns-in_err-next-in-Some-2-clause-keeps
@@ -120,7 +124,8 @@ returns-in_err-next-in-Some-2-clause-keeps c = λ r i h.
     let k = c.loop-place.invariant.kept r i (h.0, tt) in
     let s = holds-still home d c.loop-place.w r k (scope_held c.args.at.scope) (h.0, tt) in
     let u = c.in_ok-name-in-Some.ensures.keeps k.ready (inside-still home d c.loop-place.w k i) s in
-    let p = err_from_is_err_and c.from_residual-in_err-next-in-Some-2.result c.from_residual-in_err-next-in-Some-2.ensures.1 in
+    let p = err_from_is_err_and c.from_residual-in_err-next-in-Some-2.result
+    c.from_residual-in_err-next-in-Some-2.ensures.1 in
     rw p.1 (record { changed = changed-then home d c.loop-place.w c.give_one.new.w k u.changed; leaves = tt })
 
 pub returns-in-Some-2-clause-keeps : goal.returns-in-Some-2-clause-keeps

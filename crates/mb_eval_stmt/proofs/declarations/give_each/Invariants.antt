@@ -17,9 +17,11 @@ invariant-loop-place l =
     let c = context_in (names_of l.fn.w) l.home.0 l.at in
     let ps = parts_at (forms_at l.fn.w l.home) l.node.0 in
     record {
-      same : (log : List Item) → give_each c (drop l.next ps) finished (Image l.fn.w log) ≡ give_each c (drop l.place ps) finished (Image l.w log);
+      same : (log : List Item) → give_each c (drop l.next ps) finished (Image l.fn.w log) ≡ give_each c
+          (drop l.place ps) finished (Image l.w log);
       grew : Grew l.fn.w l.w;
       trace : entries_in l.w ≡ entries_in l.fn.w;
       ids : HasItsIds l.w;
-      kept : IsReady l.fn.w → l.home.0 < l.fn.w.sides → Holds l.fn.w l.home (scope_held l.at.scope) → Changed l.home l.fn.w l.w;
+      kept : IsReady l.fn.w → l.home.0 < l.fn.w.sides → Holds l.fn.w l.home (scope_held l.at.scope) → Changed l.home
+          l.fn.w l.w;
     }

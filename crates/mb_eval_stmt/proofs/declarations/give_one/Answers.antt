@@ -3,8 +3,8 @@ use Rattle.std.proofs.lemmas.Result.{err_from_is_err_and}
 use Rattle.mb_frames.specs.Kinds.{is_expression}
 use Rattle.mb_eval_stmt.specs.machine.Keeping.{declared_held}
 use Rattle.mb_frames.specs.Keeping.{none_held}
-use Rattle.mb_eval_stmt.proofs.Entering.{same-keeps}
-use Rattle.mb_eval_stmt.proofs.Keeping.{answer-halts, text-held}
+use Rattle.mb_parts.proofs.Answering.{same-keeps}
+use Rattle.mb_parts.proofs.Answering.{answer-halts, text-held}
 use Rattle.mb_eval_stmt.proofs.Leaving.{undefined-held}
 use Rattle.mb_frames.proofs.Keeping.{expression-is, node-held}
 use Rattle.mb_eval_stmt.proofs.declarations.give_one.Goals as goal

@@ -28,14 +28,16 @@ pub returns-in-Continue-clause-leaves : goal.returns-in-Continue-clause-leaves
 returns-in-Continue-clause-leaves c = λ home d h e p. leaves-any d home o.Continue tt
 
 pub returns-in-Return-None-clause-leaves : goal.returns-in-Return-None-clause-leaves
-returns-in-Return-None-clause-leaves c = λ home d h e p. leaves-any d home (o.Return v.Undefined) (undefined-held d home, tt)
+returns-in-Return-None-clause-leaves c = λ home d h e p. leaves-any d home (o.Return v.Undefined)
+    (undefined-held d home, tt)
 
 pub returns-in-Return-Some-clause-leaves : goal.returns-in-Return-Some-clause-leaves
 returns-in-Return-Some-clause-leaves c = λ home d h e p.
     let q : Maybe (IsNodeOf d home Expression) c.in-Return-Some.value' = rw c.in-Return-Some.is at p in
     let z : c.in-Return-Some.value' ≡ Some c.in-Return-Some.value
     = rw c.in-Return-Some.is at c.in-Return-Some.value-is in
-    let s : Maybe (IsNodeOf d home Expression) (Some c.in-Return-Some.value) = subst (Maybe (IsNodeOf d home Expression)) z q in
+    let s : Maybe (IsNodeOf d home Expression) (Some c.in-Return-Some.value) =
+    subst (Maybe (IsNodeOf d home Expression)) z q in
     waits-value d home y.Return c.in-Return-Some.value c.args.at refl tt h
     (expression-is d home c.in-Return-Some.value s)
 

@@ -1,4 +1,4 @@
-use Rattle.mb_eval_stmt.proofs.Entering.{same-keeps}
+use Rattle.mb_parts.proofs.Answering.{same-keeps}
 use Rattle.mb_frames.specs.Keeping.{scope_held}
 use Rattle.mb_eval_stmt.proofs.fors.copy_if.Goals as goal
 

@@ -7,4 +7,4 @@ pub returns-clause-row : goal.returns-clause-row
 returns-clause-row c = λ home d f l i. Step-again home d (t.Loop c.args.node c.args.at) f l (i.0, (i.1, (tt, tt)))
 
 pub returns-clause-leaves : goal.returns-clause-leaves
-returns-clause-leaves c = λ home d h. leaves-anew d home (t.Loop c.args.node c.args.at) h
+returns-clause-leaves c = λ home d h. leaves-anew d home (t.Loop c.args.node c.args.at) h tt

@@ -10,8 +10,10 @@ use Rattle.mb_world.specs.Image.{names_of}
 use Rattle.mb_frames.proofs.Going.{Step-unentered}
 use Rattle.mb_eval_stmt.proofs.Rows.{Step-for, Step-nothing, Step-turn}
 use Rattle.mb_frames.specs.Keeping.{scope_held}
-use Rattle.mb_eval_stmt.proofs.Keeping.{entered-then, for-after, keeps-halts, keeps-same}
+use Rattle.mb_eval_stmt.proofs.Keeping.{entered-then, for-after, keeps-same}
+use Rattle.mb_parts.proofs.Answering.{keeps-halts}
 use Rattle.mb_eval_stmt.proofs.Leaving.{ends-nothing}
+use Rattle.mb_frames.specs.Sorts.{ACompletion}
 use Rattle.mb_eval_stmt.proofs.fors.for_first_done.Goals as goal
 
 pub returns-in_err-scope-in-Some-clause-row : goal.returns-in_err-scope-in-Some-clause-row
@@ -25,7 +27,8 @@ returns-in_err-scope-in-Some-clause-row c = λ begun l.
     (Step-for c.args.home begun (Err c.in_err-scope-in-Some.field-0.0) d c.copy_if.new.w c.args.fuel.now
     c.copy_if.new.fuel l l c.args.node parts c.in-Some.ensures.parts
     (λ lets test last body. for_begun x n lets test last body)
-    (Step-unentered c.args.home begun c.in_err-scope-in-Some.field-0.0 d c.copy_if.new.w c.args.fuel.now c.copy_if.new.fuel l
+    (Step-unentered c.args.home begun c.in_err-scope-in-Some.field-0.0 d c.copy_if.new.w c.args.fuel.now
+    c.copy_if.new.fuel l
     (copy_if parts.lets c.args.at.scope.0)
     (λ sc. for_turn (with_scope x sc) n parts.lets (node_in parts.test) (node_in parts.last) parts.body.0 finished)
     c.in_err-scope-in-Some.ensures.enters))
@@ -36,9 +39,12 @@ returns-in_ok-scope-in-Some-clause-row c = λ begun l.
     let q = c.in-Some.ensures.parts in
     let e = c.in_ok-scope-in-Some.ensures.enters in
     let s = c.in_ok-scope-in-Some.ensures.scope in
-    Step-for c.args.home begun (Ok c.for_turn.result) d c.copy_if.new.w c.args.fuel.now c.copy_if.new.fuel l l c.args.node
-    c.in-Some.parts q (λ lets test last body. for_begun (context_in (names_of d) c.args.home.0 c.args.at) c.args.node.0 lets test last body)
-    (Step-turn c.args.home begun d c.copy_if.new.w c.args.fuel.now c.copy_if.new.fuel l c.args.at c.args.node c.in-Some.parts
+    Step-for c.args.home begun (Ok c.for_turn.result) d c.copy_if.new.w c.args.fuel.now c.copy_if.new.fuel l l
+    c.args.node
+    c.in-Some.parts q (λ lets test last body. for_begun (context_in (names_of d) c.args.home.0 c.args.at)
+    c.args.node.0 lets test last body)
+    (Step-turn c.args.home begun d c.copy_if.new.w c.args.fuel.now c.copy_if.new.fuel l c.args.at c.args.node
+    c.in-Some.parts
     c.in_ok-scope-in-Some.scope c.for_turn.result c.requires.world.ids c.requires.context q e s
     (c.for_turn.ensures.row c.args.home c.copy_if.new.w))
 
@@ -53,7 +59,7 @@ pub returns-in_err-scope-in-Some-clause-keeps : goal.returns-in_err-scope-in-Som
 returns-in_err-scope-in-Some-clause-keeps c = λ r i h.
     let p = err_from_is_err_and c.from_residual.result c.from_residual.ensures.1 in
     rw (p.1, p.2)
-    (keeps-halts scope_held c.args.home c.in_err-scope-in-Some.field-0.0 c.args.w.now c.copy_if.new.w
+    (keeps-halts scope_held c.args.home ACompletion c.in_err-scope-in-Some.field-0.0 c.args.w.now c.copy_if.new.w
     (c.in_err-scope-in-Some.ensures.keeps c.args.home r i (h.0, tt)))
 
 pub returns-in_ok-scope-in-Some-clause-keeps : goal.returns-in_ok-scope-in-Some-clause-keeps

@@ -12,10 +12,12 @@ use Rattle.mb_frames.specs.Kinds.{Expression, is_for_form}
 use Rattle.mb_frames.specs.Told.{IsNodeOf}
 use Rattle.mb_frames.specs.declared.statements.StmtFrame.TheVariants as y
 use Rattle.mb_world.specs.Ids.{Maybe}
-use Rattle.mb_eval_stmt.proofs.Keeping.{entered-then, for-after, keeps-halts, keeps-same}
+use Rattle.mb_eval_stmt.proofs.Keeping.{entered-then, for-after, keeps-same}
+use Rattle.mb_parts.proofs.Answering.{keeps-halts}
 use Rattle.mb_eval_stmt.proofs.Leaving.{waits-value}
 use Rattle.mb_frames.proofs.Keeping.{expression-is, node-held}
 use Rattle.mb_eval_stmt.proofs.Rows.{inside}
+use Rattle.mb_frames.specs.Sorts.{ACompletion}
 use Rattle.mb_eval_stmt.proofs.fors.for_next.Goals as goal
 
 pub returns-in_err-copy-clause-row : goal.returns-in_err-copy-clause-row
@@ -33,7 +35,8 @@ returns-in_err-copy-clause-row c = λ home q r l.
 pub returns-in-Some-clause-row : goal.returns-in-Some-clause-row
 returns-in-Some-clause-row c = λ home q r l.
     rw c.in-Some.is
-    (Step-last home c.args.w.now c.copy_if.new.w c.args.fuel.now c.copy_if.new.fuel l c.args.at c.args.node c.in-Some.last
+    (Step-last home c.args.w.now c.copy_if.new.w c.args.fuel.now c.copy_if.new.fuel l c.args.at c.args.node
+    c.in-Some.last
     c.in_ok-copy.copy c.args.parts q r.ids c.requires.context c.in_ok-copy.ensures.enters c.in_ok-copy.ensures.scope)
 
 pub returns-in-None-clause-row : goal.returns-in-None-clause-row
@@ -44,13 +47,14 @@ returns-in-None-clause-row c = λ home q r l.
     c.in_ok-copy.ensures.enters
     (c.for_again.ensures.row home c.copy_if.new.w c.copy_if.new.fuel l
     (ContextIn-entered c.args.w.now c.copy_if.new.w c.args.at c.in_ok-copy.copy c.args.fuel.now c.copy_if.new.fuel
-    (copy_if c.args.parts.lets c.args.at.scope.0) c.in_ok-copy.ensures.enters c.in_ok-copy.ensures.scope c.requires.context)))
+    (copy_if c.args.parts.lets c.args.at.scope.0) c.in_ok-copy.ensures.enters c.in_ok-copy.ensures.scope
+    c.requires.context)))
 
 pub returns-in_err-copy-clause-keeps : goal.returns-in_err-copy-clause-keeps
 returns-in_err-copy-clause-keeps c = λ home q r i h.
     let p = err_from_is_err_and c.from_residual.result c.from_residual.ensures.1 in
     rw (p.1, p.2)
-    (keeps-halts scope_held home c.in_err-copy.field-0.0 c.args.w.now c.copy_if.new.w
+    (keeps-halts scope_held home ACompletion c.in_err-copy.field-0.0 c.args.w.now c.copy_if.new.w
     (c.in_err-copy.ensures.keeps home r i (h.0, tt)))
 
 pub returns-in-Some-clause-keeps : goal.returns-in-Some-clause-keeps

@@ -21,9 +21,11 @@ use Rattle.mb_frames.specs.declared.statements.StmtFrame.TheVariants as y
 use Rattle.mb_frames.specs.Holding.{task_held}
 use Rattle.mb_frames.specs.declared.task.Task.TheVariants as t
 use Rattle.std.proofs.Common.{slice_get, ◌++◌, ◌∷◌, []}
-use Rattle.mb_eval_stmt.proofs.Keeping.{entered-then, for-statement, keeps-halts, keeps-same}
+use Rattle.mb_eval_stmt.proofs.Keeping.{entered-then, for-statement, keeps-same}
+use Rattle.mb_parts.proofs.Answering.{keeps-halts}
 use Rattle.mb_eval_stmt.proofs.Leaving.{node-of-if, waits-any}
 use Rattle.mb_eval_stmt.proofs.Rows.{inside}
+use Rattle.mb_frames.specs.Sorts.{ACompletion}
 use Rattle.mb_eval_stmt.proofs.fors.for_row.Goals as goal
 
 pub returns-in_err-scope-clause-row : goal.returns-in_err-scope-clause-row
@@ -35,7 +37,8 @@ returns-in_err-scope-clause-row c = λ test last body e begun l.
     let p = err_from_is_err_and c.from_residual.result c.from_residual.ensures.1 in
     let q : Enters (Err c.in_err-scope.field-0.0) d c.enter_if.new.w c.args.fuel.now c.enter_if.new.fuel
     (enter_if x (lets_of fs (node_in c.args.first)) c.args.node.0)
-    = subst (λ (b : Bool). Enters (Err c.in_err-scope.field-0.0) d c.enter_if.new.w c.args.fuel.now c.enter_if.new.fuel (enter_if x b c.args.node.0))
+    = subst (λ (b : Bool). Enters (Err c.in_err-scope.field-0.0) d c.enter_if.new.w c.args.fuel.now
+    c.enter_if.new.fuel (enter_if x b c.args.node.0))
     c.declares-lets.ensures (c.in_err-scope.ensures.enters (Resolve (names_of d) c.args.at.this)) in
     rw (p.1, p.2)
     (Step-row home begun (Err c.in_err-scope.field-0.0) d c.enter_if.new.w c.args.fuel.now c.enter_if.new.fuel l l
@@ -64,12 +67,14 @@ returns-in-Some-clause-row c = λ test last body e begun l.
     let x = context_in (names_of d) home.0 c.args.at in
     let q : Enters (Ok c.in_ok-scope.scope) d c.enter_if.new.w c.args.fuel.now c.enter_if.new.fuel
     (enter_if x (lets_of (forms_at d home) (Some c.in-Some.first.0)) c.args.node.0)
-    = subst (λ (b : Bool). Enters (Ok c.in_ok-scope.scope) d c.enter_if.new.w c.args.fuel.now c.enter_if.new.fuel (enter_if x b c.args.node.0))
+    = subst (λ (b : Bool). Enters (Ok c.in_ok-scope.scope) d c.enter_if.new.w c.args.fuel.now c.enter_if.new.fuel
+    (enter_if x b c.args.node.0))
     (rw c.in-Some.is at c.declares-lets.ensures) (c.in_ok-scope.ensures.enters (Resolve (names_of d) c.args.at.this)) in
     rw c.in-Some.is
     (Step-row home begun (Ok _) d c.enter_if.new.w c.args.fuel.now c.enter_if.new.fuel l l
     c.args.at c.args.node (Some c.in-Some.first.0) test last body c.requires.world.takes_part
-    (Step-first home begun d c.enter_if.new.w c.args.fuel.now c.enter_if.new.fuel l c.args.at c.args.node c.in-Some.first
+    (Step-first home begun d c.enter_if.new.w c.args.fuel.now c.enter_if.new.fuel l c.args.at c.args.node
+    c.in-Some.first
     test last body c.in_ok-scope.scope c.requires.world.ids c.requires.context (rw c.in-Some.is at e) q
     c.in_ok-scope.ensures.scope))
 
@@ -80,7 +85,8 @@ returns-in-None-clause-row c = λ test last body e begun l.
     let x = context_in (names_of d) home.0 c.args.at in
     let q : Enters (Ok c.in_ok-scope.scope) d c.enter_if.new.w c.args.fuel.now c.enter_if.new.fuel
     (enter_if x (lets_of (forms_at d home) None) c.args.node.0)
-    = subst (λ (b : Bool). Enters (Ok c.in_ok-scope.scope) d c.enter_if.new.w c.args.fuel.now c.enter_if.new.fuel (enter_if x b c.args.node.0))
+    = subst (λ (b : Bool). Enters (Ok c.in_ok-scope.scope) d c.enter_if.new.w c.args.fuel.now c.enter_if.new.fuel
+    (enter_if x b c.args.node.0))
     (rw c.in-None.is at c.declares-lets.ensures) (c.in_ok-scope.ensures.enters (Resolve (names_of d) c.args.at.this)) in
     rw c.in-None.is
     (Step-row home begun c.for_first_done.result d c.for_first_done.new.w c.args.fuel.now c.for_first_done.new.fuel l l
@@ -97,7 +103,7 @@ returns-in_err-scope-clause-keeps c = λ r i h.
     let n = for-statement (slice_get (forms_at c.args.w.now c.args.home) c.args.node.0) h.1.1.0.sound in
     let p = err_from_is_err_and c.from_residual.result c.from_residual.ensures.1 in
     rw (p.1, p.2)
-    (keeps-halts scope_held c.args.home c.in_err-scope.field-0.0 c.args.w.now c.enter_if.new.w
+    (keeps-halts scope_held c.args.home ACompletion c.in_err-scope.field-0.0 c.args.w.now c.enter_if.new.w
     (c.in_err-scope.ensures.keeps n r i (h.0, tt)))
 
 pub returns-in-Some-clause-keeps : goal.returns-in-Some-clause-keeps
@@ -109,7 +115,8 @@ returns-in-Some-clause-keeps c = λ r i h.
     let n = for-statement (slice_get (forms_at d home) c.args.node.0) h.1.1.0.sound in
     let k = c.in_ok-scope.ensures.keeps n r i (h.0, tt) in
     let g = rw c.in-Some.is at h in
-    let q = holds-still home d d1 r k.changed (task_held (t.Loop c.args.node c.args.at) ++ HeldNodeIf (Some c.in-Some.first) ∷ []) g in
+    let q = holds-still home d d1 r k.changed (task_held (t.Loop c.args.node c.args.at) ++ HeldNodeIf
+    (Some c.in-Some.first) ∷ []) g in
     entered-then home (Ok _) d d1 d1 c.args.at c.in_ok-scope.scope r i (h.0, (h.1.0, tt)) k
     (λ b m z. keeps-same home d1 _ b
     (waits-any d1 home (y.ForFirst at1 c.args.node) c.in-Some.first at1 refl (z.0, (z.1.0, (q.1.1.0, tt))) z
@@ -121,5 +128,6 @@ returns-in-None-clause-keeps c = λ r i h.
     let home = c.args.home in
     let n = for-statement (slice_get (forms_at d home) c.args.node.0) h.1.1.0.sound in
     let k = c.in_ok-scope.ensures.keeps n r i (h.0, tt) in
-    entered-then home c.for_first_done.result d c.enter_if.new.w c.for_first_done.new.w c.args.at c.in_ok-scope.scope r i
+    entered-then home c.for_first_done.result d c.enter_if.new.w c.for_first_done.new.w c.args.at c.in_ok-scope.scope
+    r i
     (h.0, (h.1.0, tt)) k (λ b m z. c.for_first_done.ensures.keeps b m z)

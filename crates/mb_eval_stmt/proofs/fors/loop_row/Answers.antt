@@ -20,7 +20,8 @@ returns-in-Some-clause-row c =
     (λ log.
     loop-is d c.args.home x c.args.node.0 log c.requires.world.takes_part refl
     ∙ ap (λ (p : Does Answer). p finished (Image d log))
-    (for-is d c.args.home c.args.node parts c.in-Some.ensures.parts (λ lets test last body. for_turn x c.args.node.0 lets test last body)))
+    (for-is d c.args.home c.args.node parts c.in-Some.ensures.parts (λ lets test last body. for_turn x c.args.node.0
+    lets test last body)))
     (c.for_turn.ensures.row c.args.home d c.requires.context c.in-Some.ensures.parts)
 
 pub returns-in-None-clause-row : goal.returns-in-None-clause-row

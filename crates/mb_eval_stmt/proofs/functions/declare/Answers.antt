@@ -1,22 +1,24 @@
-use Rattle.std.proofs.Common.{◌∙◌, List, ap, arith, length, sym, ℕ, Err, refl}
+use Rattle.std.proofs.Common.{◌∙◌, List, ap, arith, length, slice_get, sym, ℕ, Err, refl}
 use Rattle.mb_frames.proofs.Steps.{Grew-then}
 use Rattle.mb_frames.specs.Rest.Parts.{parts_at}
 use Rattle.mb_frames.specs.Standing.{forms_at}
-use Rattle.mb_eval_stmt.proofs.Declaring.{made-all, made-more}
+use Rattle.mb_parts.proofs.Declaring.{made-all, made-more}
 use Rattle.mb_frames.proofs.Forms.{CanRun-grows}
-use Rattle.mb_eval_stmt.proofs.Giving.{not-past, parts-grow}
+use Rattle.mb_eval_stmt.proofs.Giving.{parts-grow}
+use Rattle.mb_parts.proofs.Places.{not-past}
 use Rattle.std.proofs.lemmas.Result.{err_from_is_err_and}
 use Rattle.mb_frames.proofs.Leaving.{holds-still}
 use Rattle.mb_frames.proofs.Readying.{changed-same, changed-then}
 use Rattle.mb_frames.proofs.Steps.{Grew-same}
 use Rattle.mb_frames.specs.Keeping.{none_held, scope_held}
-use Rattle.mb_eval_stmt.proofs.Keeping.{answer-then}
+use Rattle.mb_parts.proofs.Answering.{answer-then}
 use Rattle.mb_frames.proofs.Keeping.{inside-still}
 use Rattle.mb_eval_stmt.proofs.functions.declare.Goals as goal
 
 pub part_at-requires : goal.part_at-requires
 part_at-requires c =
-    CanRun-grows c.args.w.now c.loop-place.w c.args.home c.loop-place.invariant.grew c.loop-place.invariant.ids c.requires.world
+    CanRun-grows c.args.w.now c.loop-place.w c.args.home c.loop-place.invariant.grew c.loop-place.invariant.ids
+    c.requires.world
 
 pub unreachable-requires : goal.unreachable-requires
 unreachable-requires c =
@@ -29,8 +31,9 @@ unreachable-requires c =
 pub returns-clause-changes : goal.returns-clause-changes
 returns-clause-changes c =
     let i = c.loop-place.invariant in
-    made-all c.args.home c.args.w.now c.loop-place.w c.args.scope c.args.node c.loop-place.place c.requires.world.ids
-    c.requires.world.takes_part i.grew i.trace i.same
+    made-all c.args.home c.args.w.now c.loop-place.w c.args.scope (parts_at (forms_at c.args.w.now c.args.home)
+    c.args.node.0)
+    c.loop-place.place c.requires.world.takes_part i.grew i.trace i.same
     (omega (arith, c.loop-place-test.false, c.count_of-place-end.ensures))
 
 pub loop-place-preserved : goal.loop-place-preserved
@@ -39,9 +42,13 @@ loop-place-preserved c =
     let q = c.in_ok-declare_one-in-Some.ensures.changes in
     record {
       same = λ k log.
-          made-more c.args.home c.args.w.now c.loop-place.w c.args.scope c.args.node c.loop-place.place c.requires.world.ids
-          c.requires.world.takes_part i.grew i.trace i.same c.declare_one.new.w c.in-Some.statement.0 k log
-          (sym c.in-Some.ensures.part) q;
+          made-more c.args.home c.args.w.now c.loop-place.w c.args.scope
+          (parts_at (forms_at c.args.w.now c.args.home) c.args.node.0) c.loop-place.place c.requires.world.takes_part
+          i.grew
+          i.trace i.same c.declare_one.new.w c.in-Some.statement.0 k log
+          (ap (λ (ns : List ℕ). slice_get ns c.loop-place.place)
+          (sym (parts-grow c.args.w.now c.loop-place.w c.args.home c.args.node c.requires.world.ids i.grew))
+          ∙ sym c.in-Some.ensures.part) q;
       grew = Grew-then c.args.w.now c.loop-place.w c.declare_one.new.w i.grew q.grew;
       trace = q.trace ∙ i.trace;
       ids = c.declare_one.ensures.ids;

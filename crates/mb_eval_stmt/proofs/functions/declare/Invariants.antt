@@ -17,10 +17,12 @@ abbrev pub invariant-loop-place : goal.invariant-loop-place
 invariant-loop-place l =
     let ps = parts_at (forms_at l.fn.w l.home) l.node.0 in
     record {
-      same : (k : Answer → Graph → Row) (log : List Item) → declare l.home.0 l.scope.0 ps k (Image l.fn.w log) ≡ declare l.home.0 l.scope.0 (drop l.place ps) k (Image l.w log);
+      same : (k : Answer → Graph → Row) (log : List Item) → declare l.home.0 l.scope.0 ps k (Image l.fn.w log)
+          ≡ declare l.home.0 l.scope.0 (drop l.place ps) k (Image l.w log);
       grew : Grew l.fn.w l.w;
       trace : entries_in l.w ≡ entries_in l.fn.w;
       ids : HasItsIds l.w;
       prototypes : HasPrototypes l.w l.home;
-      kept : IsReady l.fn.w → l.home.0 < l.fn.w.sides → Holds l.fn.w l.home (scope_held l.scope) → Changed l.home l.fn.w l.w;
+      kept : IsReady l.fn.w → l.home.0 < l.fn.w.sides → Holds l.fn.w l.home (scope_held l.scope) → Changed l.home
+          l.fn.w l.w;
     }

@@ -27,7 +27,7 @@ pub returns-then-test-clause-leaves : goal.returns-then-test-clause-leaves
 returns-then-test-clause-leaves c = λ home d h.
     leaves-anew d home (t.Evaluate c.args.node c.args.at)
     (begins d home c.args.node c.args.at (h.0, (h.1.0, tt))
-    (do-evaluated (slice_get (forms_at d home) c.args.node.0) h.1.1.0.sound))
+    (do-evaluated (slice_get (forms_at d home) c.args.node.0) h.1.1.0.sound)) tt
 
 pub returns-else-test-clause-leaves : goal.returns-else-test-clause-leaves
 returns-else-test-clause-leaves c = λ home d h. ends-nothing d home

@@ -30,7 +30,7 @@ pub returns-then-goes_round-clause-leaves : goal.returns-then-goes_round-clause-
 returns-then-goes_round-clause-leaves c = λ home d h k.
     leaves-anew d home (t.Evaluate c.args.node c.args.at)
     (begins d home c.args.node c.args.at (h.0, (h.1.0, tt))
-    (while-evaluated (slice_get (forms_at d home) c.args.node.0) h.1.1.0.sound))
+    (while-evaluated (slice_get (forms_at d home) c.args.node.0) h.1.1.0.sound)) tt
 
 pub returns-else-goes_round-clause-leaves : goal.returns-else-goes_round-clause-leaves
 returns-else-goes_round-clause-leaves c = λ home d h k. c.leaves.ensures.leaves home d k

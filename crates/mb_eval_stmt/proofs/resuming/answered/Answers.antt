@@ -29,8 +29,11 @@ returns-in-Declared-clause-row c = λ answer e l.
     let f = c.args.fuel.now in
     let h = rw c.in-Declared.is at c.requires.frame in
     rw c.in-Declared.is
-    (Step-rest c.args.home c.declared.result d c.declared.new.w f f l l (y.Declared c.in-Declared.at c.in-Declared.node c.in-Declared.name c.in-Declared.next) answer v
-    (λ z. initialize c.in-Declared.at.scope.0 (text_in n c.in-Declared.name) z >>= (λ a. give_each (context_in n c.args.home.0 c.in-Declared.at) (drop c.in-Declared.next (parts_at (forms_at d c.args.home) c.in-Declared.node.0)))) (λ g. refl) e
+    (Step-rest c.args.home c.declared.result d c.declared.new.w f f l l
+    (y.Declared c.in-Declared.at c.in-Declared.node c.in-Declared.name c.in-Declared.next) answer v
+    (λ z. initialize c.in-Declared.at.scope.0 (text_in n c.in-Declared.name) z >>=
+    (λ a. give_each (context_in n c.args.home.0 c.in-Declared.at)
+    (drop c.in-Declared.next (parts_at (forms_at d c.args.home) c.in-Declared.node.0)))) (λ g. refl) e
     (c.declared.ensures.row true f l))
 
 pub returns-in-Expression-clause-row : goal.returns-in-Expression-clause-row
@@ -54,8 +57,11 @@ returns-in-If-clause-row c = λ answer e l.
     let h = rw c.in-If.is at c.requires.frame in
     rw c.in-If.is
     (Step-rest c.args.home (Ok c.branch-at.result) d d f f l l (y.If c.in-If.at c.in-If.main c.in-If.other) answer v
-    (λ z. branch (context_in n c.args.home.0 c.in-If.at) c.in-If.main.0 (node_in c.in-If.other) (to_boolean z)) (λ g. refl) e
-    (rw (← c.truth.ensures) (Step-sure c.args.home true d (branch (context_in n c.args.home.0 c.in-If.at) c.in-If.main.0 (node_in c.in-If.other) c.truth.result finished) c.branch-at.result f l (c.branch-at.ensures.row c.args.home d (h.0, h.1.0)))))
+    (λ z. branch (context_in n c.args.home.0 c.in-If.at) c.in-If.main.0 (node_in c.in-If.other) (to_boolean z))
+    (λ g. refl) e
+    (rw (← c.truth.ensures) (Step-sure c.args.home true d (branch (context_in n c.args.home.0 c.in-If.at)
+    c.in-If.main.0 (node_in c.in-If.other) c.truth.result finished) c.branch-at.result f l
+    (c.branch-at.ensures.row c.args.home d (h.0, h.1.0)))))
 
 pub returns-in-WhileTest-clause-row : goal.returns-in-WhileTest-clause-row
 returns-in-WhileTest-clause-row c = λ answer e l.
@@ -65,9 +71,16 @@ returns-in-WhileTest-clause-row c = λ answer e l.
     let f = c.args.fuel.now in
     let h = rw c.in-WhileTest.is at c.requires.frame in
     rw c.in-WhileTest.is
-    (Step-rest c.args.home (Ok c.while_tested.result) d d f f l l (y.WhileTest c.in-WhileTest.at c.in-WhileTest.node c.in-WhileTest.body) answer v
-    (λ z. while_tested (context_in n c.args.home.0 c.in-WhileTest.at) (task (context_in n c.args.home.0 c.in-WhileTest.at) c.in-WhileTest.node.0) c.in-WhileTest.body.0 (to_boolean z)) (λ g. refl) e
-    (rw (← c.truth-in-WhileTest.ensures) (Step-sure c.args.home true d (while_tested (context_in n c.args.home.0 c.in-WhileTest.at) (task (context_in n c.args.home.0 c.in-WhileTest.at) c.in-WhileTest.node.0) c.in-WhileTest.body.0 c.truth-in-WhileTest.result finished) c.while_tested.result f l (c.while_tested.ensures.row c.args.home d (h.0, h.1.0)))))
+    (Step-rest c.args.home (Ok c.while_tested.result) d d f f l l (y.WhileTest c.in-WhileTest.at c.in-WhileTest.node
+    c.in-WhileTest.body) answer v
+    (λ z. while_tested (context_in n c.args.home.0 c.in-WhileTest.at)
+    (task (context_in n c.args.home.0 c.in-WhileTest.at) c.in-WhileTest.node.0) c.in-WhileTest.body.0
+    (to_boolean z)) (λ g. refl) e
+    (rw (← c.truth-in-WhileTest.ensures)
+    (Step-sure c.args.home true d (while_tested (context_in n c.args.home.0 c.in-WhileTest.at)
+    (task (context_in n c.args.home.0 c.in-WhileTest.at) c.in-WhileTest.node.0) c.in-WhileTest.body.0
+    c.truth-in-WhileTest.result finished) c.while_tested.result f l (c.while_tested.ensures.row c.args.home d
+    (h.0, h.1.0)))))
 
 pub returns-in-ForTest-clause-row : goal.returns-in-ForTest-clause-row
 returns-in-ForTest-clause-row c = λ answer e l.
@@ -78,8 +91,12 @@ returns-in-ForTest-clause-row c = λ answer e l.
     let h = rw c.in-ForTest.is at c.requires.frame in
     rw c.in-ForTest.is
     (Step-rest c.args.home (Ok c.for_tested.result) d d f f l l (y.ForTest c.in-ForTest.at c.in-ForTest.node) answer v
-    (λ z. for_tested (forms_at d c.args.home) (context_in n c.args.home.0 c.in-ForTest.at) c.in-ForTest.node.0 (to_boolean z)) (λ g. refl) e
-    (rw (← c.truth-in-ForTest.ensures) (Step-sure c.args.home true d (for_tested (forms_at d c.args.home) (context_in n c.args.home.0 c.in-ForTest.at) c.in-ForTest.node.0 c.truth-in-ForTest.result finished) c.for_tested.result f l c.for_tested.ensures.row)))
+    (λ z. for_tested (forms_at d c.args.home) (context_in n c.args.home.0 c.in-ForTest.at) c.in-ForTest.node.0
+    (to_boolean z)) (λ g. refl) e
+    (rw (← c.truth-in-ForTest.ensures)
+    (Step-sure c.args.home true d (for_tested (forms_at d c.args.home)
+    (context_in n c.args.home.0 c.in-ForTest.at) c.in-ForTest.node.0 c.truth-in-ForTest.result finished)
+    c.for_tested.result f l c.for_tested.ensures.row)))
 
 pub returns-in-Return-clause-row : goal.returns-in-Return-clause-row
 returns-in-Return-clause-row c = λ answer e l.
@@ -91,7 +108,12 @@ returns-in-Return-clause-row c = λ answer e l.
     rw c.in-Return.is
     (Step-rest c.args.home (Ok _) d d f f l l y.Return answer v
     (λ z. ends (Return z)) (λ g. refl) e
-    (Step-sure c.args.home true d (ends (Return v) finished) _ f l (record { same = λ w b log k. refl; free = λ log. refl; calm = tt; ids = (c.requires.value, tt) })))
+    (Step-sure c.args.home true d (ends (Return v) finished) _ f l (record {
+      same = λ w b log k. refl;
+      free = λ log. refl;
+      calm = tt;
+      ids = (c.requires.value, tt);
+    })))
 
 pub returns-in-Throw-clause-row : goal.returns-in-Throw-clause-row
 returns-in-Throw-clause-row c = λ answer e l.
@@ -103,7 +125,12 @@ returns-in-Throw-clause-row c = λ answer e l.
     rw c.in-Throw.is
     (Step-rest c.args.home (Ok _) d d f f l l y.Throw answer v
     (λ z. throw z) (λ g. refl) e
-    (Step-sure c.args.home true d (throw v finished) _ f l (record { same = λ w b log k. refl; free = λ log. refl; calm = tt; ids = (c.requires.value, tt) })))
+    (Step-sure c.args.home true d (throw v finished) _ f l (record {
+      same = λ w b log k. refl;
+      free = λ log. refl;
+      calm = tt;
+      ids = (c.requires.value, tt);
+    })))
 
 pub returns-in-Each-clause-keeps : goal.returns-in-Each-clause-keeps
 returns-in-Each-clause-keeps c = λ r i h.

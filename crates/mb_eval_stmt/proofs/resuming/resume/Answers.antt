@@ -26,7 +26,8 @@ answered-requires c = record {
 pub returns-in-DoBody-clause-row : goal.returns-in-DoBody-clause-row
 returns-in-DoBody-clause-row c = λ l.
     let h = rw c.in-DoBody.is at c.requires.frame in
-    rw c.in-DoBody.is (c.do_ended.ensures.row c.args.home c.args.w.now c.args.fuel.now l (h.0, h.1.0) c.requires.outcome)
+    rw c.in-DoBody.is (c.do_ended.ensures.row c.args.home c.args.w.now c.args.fuel.now l (h.0, h.1.0)
+    c.requires.outcome)
 
 pub returns-in-Handler-clause-row : goal.returns-in-Handler-clause-row
 returns-in-Handler-clause-row c = λ l.
@@ -34,7 +35,8 @@ returns-in-Handler-clause-row c = λ l.
     let h = rw c.in-Handler.is at c.requires.frame in
     rw c.in-Handler.is
     (Step-sure c.args.home true d
-    (finally (context_in (names_of d) c.args.home.0 c.in-Handler.at) (node_in c.in-Handler.ending) (outcome_in (names_of d) c.args.outcome) finished)
+    (finally (context_in (names_of d) c.args.home.0 c.in-Handler.at) (node_in c.in-Handler.ending)
+    (outcome_in (names_of d) c.args.outcome) finished)
     c.finally.result c.args.fuel.now l (c.finally.ensures.row c.args.home d (h.0, h.1.0) c.requires.outcome))
 
 pub returns-in-Ending-clause-row : goal.returns-in-Ending-clause-row

@@ -4,7 +4,8 @@ use Rattle.mb_world.specs.Data.{with_scope}
 use Rattle.mb_world.specs.declared.scope.Bound.{Bound}
 use Rattle.mb_eval_stmt.proofs.Scoping.{copy-halted, copy-went}
 use Rattle.std.proofs.Common.{refl}
-use Rattle.mb_eval_stmt.proofs.Entering.{copied-keeps, halted-keeps}
+use Rattle.mb_eval_stmt.proofs.Entering.{copied-keeps}
+use Rattle.mb_parts.proofs.Answering.{halted-keeps}
 use Rattle.mb_frames.specs.Keeping.{scope_held}
 use Rattle.mb_eval_stmt.proofs.scopes.copy_scope.Goals as goal
 

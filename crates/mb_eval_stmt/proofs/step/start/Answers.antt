@@ -13,7 +13,8 @@ pub returns-in-Loop-clause-row : goal.returns-in-Loop-clause-row
 returns-in-Loop-clause-row c = λ begun l.
     let d = c.args.w.now in
     rw c.in-Loop.is
-    (Step-sure c.args.home begun d (row (task_in (names_of d) c.args.home.0 (t.Loop c.in-Loop.node c.in-Loop.at))) c.loop_row.result
+    (Step-sure c.args.home begun d (row (task_in (names_of d) c.args.home.0 (t.Loop c.in-Loop.node c.in-Loop.at)))
+    c.loop_row.result
     c.args.fuel.now l c.loop_row.ensures.row)
 
 pub returns-in-Evaluate-clause-keeps : goal.returns-in-Evaluate-clause-keeps

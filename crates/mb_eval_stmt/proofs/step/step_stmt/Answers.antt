@@ -6,23 +6,26 @@ use Rattle.mb_frames.specs.Holding.{FrameIn}
 use Rattle.mb_frames.specs.Stepping.{written}
 use Rattle.mb_frames.specs.declared.machine.Waiting.{Waiting}
 use Rattle.mb_eval_stmt.proofs.Steadying.{has-prototypes, step-kept, step-ready, taken}
-use Rattle.mb_eval_stmt.proofs.TopFrames.{last-in, on-top, stepped, stopped}
+use Rattle.mb_parts.proofs.TopFrames.{last-in, on-top, stepped, stopped}
 use Rattle.mb_eval_stmt.specs.Ours.{IsStatementFrame}
 use Rattle.mb_eval_stmt.proofs.step.step_stmt.Goals as goal
 
 pub take-requires-clause-world : goal.take-requires-clause-world
 take-requires-clause-world c =
     ready-runs c.args.w.now c.in-Some.top.home c.requires.ready.world
-    (top-home c.args.w.now c.args.m.now c.pop.new.self.stack.items c.in-Some.top c.requires.ready c.in-Some.ensures.popped)
+    (top-home c.args.w.now c.args.m.now c.pop.new.self.stack.items c.in-Some.top c.requires.ready
+    c.in-Some.ensures.popped)
 
 pub take-requires-clause-built_ins : goal.take-requires-clause-built_ins
 take-requires-clause-built_ins c =
     has-prototypes c.args.w.now c.in-Some.top.home c.requires.ready.world
-    (top-home c.args.w.now c.args.m.now c.pop.new.self.stack.items c.in-Some.top c.requires.ready c.in-Some.ensures.popped)
+    (top-home c.args.w.now c.args.m.now c.pop.new.self.stack.items c.in-Some.top c.requires.ready
+    c.in-Some.ensures.popped)
 
 pub take-requires-clause-frame : goal.take-requires-clause-frame
 take-requires-clause-frame c =
-    last-in (λ (y : Waiting). FrameIn c.args.w.now y.frame) c.args.m.now.stack.items c.pop.new.self.stack.items c.in-Some.top
+    last-in (λ (y : Waiting). FrameIn c.args.w.now y.frame) c.args.m.now.stack.items c.pop.new.self.stack.items
+    c.in-Some.top
     c.in-Some.ensures.popped c.requires.ready.formed.ids.frames
 
 pub take-requires-clause-done : goal.take-requires-clause-done
@@ -30,7 +33,8 @@ take-requires-clause-done c = rw (c.take-done.ensures.value, c.in-Some.ensures.d
 
 pub take-requires-clause-ours : goal.take-requires-clause-ours
 take-requires-clause-ours c =
-    on-top (λ (y : Waiting). IsStatementFrame c.args.w.now y.home y.frame) c.args.m.now.stack.items c.pop.new.self.stack.items
+    on-top (λ (y : Waiting). IsStatementFrame c.args.w.now y.home y.frame) c.args.m.now.stack.items
+    c.pop.new.self.stack.items
     c.in-Some.top c.in-Some.ensures.popped c.requires.top
 
 pub returns-in_err-step-in-Some-clause-steps : goal.returns-in_err-step-in-Some-clause-steps
@@ -39,7 +43,8 @@ returns-in_err-step-in-Some-clause-steps c =
     rw (p.1, p.2)
     (stopped c.in_err-step-in-Some.field-0.0 c.args.m.now _ c.args.w.now c.take.new.w c.args.fuel.now c.take.new.fuel
     (written c.args.lines.now) c.pop.new.self.stack.items c.in-Some.top c.take-done.result c.in-Some.ensures.popped
-    (c.take-done.ensures.value ∙ c.in-Some.ensures.done) (c.in_err-step-in-Some.ensures.step (written c.args.lines.now)))
+    (c.take-done.ensures.value ∙ c.in-Some.ensures.done) (c.in_err-step-in-Some.ensures.step
+    (written c.args.lines.now)))
 
 pub returns-in_err-step-in-Some-clause-ready : goal.returns-in_err-step-in-Some-clause-ready
 returns-in_err-step-in-Some-clause-ready c =
@@ -83,7 +88,8 @@ returns-in_err-make-in-Some-clause-ready c =
     let ours = on-top (λ (y : Waiting). IsStatementFrame d y.home y.frame) m.stack.items below top was c.requires.top in
     let k = c.in_ok-step-in-Some.ensures.keeps h.world (top-home d m below top h was)
     (taken d m below top c.take-done.result h was ended ours) in
-    let p = err_from_is_err_and c.from_residual-in_err-make-in-Some.result c.from_residual-in_err-make-in-Some.ensures.1 in
+    let p = err_from_is_err_and c.from_residual-in_err-make-in-Some.result
+    c.from_residual-in_err-make-in-Some.ensures.1 in
     rw p.1 k.changed.ready
 
 pub returns-in_err-make-in-Some-clause-kept : goal.returns-in_err-make-in-Some-clause-kept
@@ -98,7 +104,8 @@ returns-in_err-make-in-Some-clause-kept c =
     let ours = on-top (λ (y : Waiting). IsStatementFrame d y.home y.frame) m.stack.items below top was c.requires.top in
     let k = c.in_ok-step-in-Some.ensures.keeps h.world (top-home d m below top h was)
     (taken d m below top c.take-done.result h was ended ours) in
-    let p = err_from_is_err_and c.from_residual-in_err-make-in-Some.result c.from_residual-in_err-make-in-Some.ensures.1 in
+    let p = err_from_is_err_and c.from_residual-in_err-make-in-Some.result
+    c.from_residual-in_err-make-in-Some.ensures.1 in
     rw p.1 (halt-keeps p.0 m m d c.take.new.w below top was k.changed)
 
 pub returns-clause-steps : goal.returns-clause-steps
@@ -148,3 +155,45 @@ returns-clause-kept c =
     c.in_ok-step-in-Some.ensures.puts_none (c.in_ok-step-in-Some.ensures.step (written c.args.lines.now)) in
     step-kept m c.make.new.self d c.take.new.w c.args.fuel.now c.take.new.fuel (written c.args.lines.now)
     (written c.args.lines.now) q h c.in_ok-step-in-Some.step refl ours k
+
+pub returns-in_err-step-in-Some-clause-found : goal.returns-in_err-step-in-Some-clause-found
+returns-in_err-step-in-Some-clause-found c =
+    let d = c.args.w.now in
+    let m = c.args.m.now in
+    let below = c.pop.new.self.stack.items in
+    let top = c.in-Some.top in
+    let h = c.requires.ready in
+    let was = c.in-Some.ensures.popped in
+    let ended = c.take-done.ensures.value ∙ c.in-Some.ensures.done in
+    let ours = on-top (λ (y : Waiting). IsStatementFrame d y.home y.frame) m.stack.items below top was c.requires.top in
+    let k = c.in_err-step-in-Some.ensures.keeps h.world (top-home d m below top h was)
+    (taken d m below top c.take-done.result h was ended ours) in
+    k.changed.found
+
+pub returns-in_err-make-in-Some-clause-found : goal.returns-in_err-make-in-Some-clause-found
+returns-in_err-make-in-Some-clause-found c =
+    let d = c.args.w.now in
+    let m = c.args.m.now in
+    let below = c.pop.new.self.stack.items in
+    let top = c.in-Some.top in
+    let h = c.requires.ready in
+    let was = c.in-Some.ensures.popped in
+    let ended = c.take-done.ensures.value ∙ c.in-Some.ensures.done in
+    let ours = on-top (λ (y : Waiting). IsStatementFrame d y.home y.frame) m.stack.items below top was c.requires.top in
+    let k = c.in_ok-step-in-Some.ensures.keeps h.world (top-home d m below top h was)
+    (taken d m below top c.take-done.result h was ended ours) in
+    k.changed.found
+
+pub returns-clause-found : goal.returns-clause-found
+returns-clause-found c =
+    let d = c.args.w.now in
+    let m = c.args.m.now in
+    let below = c.pop.new.self.stack.items in
+    let top = c.in-Some.top in
+    let h = c.requires.ready in
+    let was = c.in-Some.ensures.popped in
+    let ended = c.take-done.ensures.value ∙ c.in-Some.ensures.done in
+    let ours = on-top (λ (y : Waiting). IsStatementFrame d y.home y.frame) m.stack.items below top was c.requires.top in
+    let k = c.in_ok-step-in-Some.ensures.keeps h.world (top-home d m below top h was)
+    (taken d m below top c.take-done.result h was ended ours) in
+    k.changed.found

@@ -40,7 +40,8 @@ returns-in-Anew-clause-step c = λ l. rw c.in-Anew.is (c.start-in-Anew.ensures.r
 pub returns-in-Anew-clause-puts_none : goal.returns-in-Anew-clause-puts_none
 returns-in-Anew-clause-puts_none c =
     let d = c.args.w.now in
-    puts-none c.args.home c.start-in-Anew.result d c.start-in-Anew.new.w c.args.fuel.now c.start-in-Anew.new.fuel no-lines no-lines
+    puts-none c.args.home c.start-in-Anew.result d c.start-in-Anew.new.w c.args.fuel.now c.start-in-Anew.new.fuel
+    no-lines no-lines
     (row (task_in (names_of d) c.args.home.0 c.in-Anew.task)) (c.start-in-Anew.ensures.row true no-lines)
 
 pub returns-in-Some-clause-step : goal.returns-in-Some-clause-step
@@ -50,7 +51,8 @@ pub returns-in-Some-clause-puts_none : goal.returns-in-Some-clause-puts_none
 returns-in-Some-clause-puts_none c =
     let d = c.args.w.now in
     puts-none c.args.home c.resume.result d c.resume.new.w c.args.fuel.now c.resume.new.fuel no-lines no-lines
-    (stmt_rest (names_of d) (forms_at d c.args.home) c.args.home.0 c.in-Stmt.frame (outcome_in (names_of d) c.in-Some.outcome) finished)
+    (stmt_rest (names_of d) (forms_at d c.args.home) c.args.home.0 c.in-Stmt.frame
+    (outcome_in (names_of d) c.in-Some.outcome) finished)
     (c.resume.ensures.row no-lines)
 
 pub returns-in-None-clause-step : goal.returns-in-None-clause-step
@@ -59,8 +61,10 @@ returns-in-None-clause-step c = λ l. rw (c.in-Stmt.is, c.in-None.is) (c.resume-
 pub returns-in-None-clause-puts_none : goal.returns-in-None-clause-puts_none
 returns-in-None-clause-puts_none c =
     let d = c.args.w.now in
-    puts-none c.args.home c.resume-in-None.result d c.resume-in-None.new.w c.args.fuel.now c.resume-in-None.new.fuel no-lines no-lines
-    (stmt_rest (names_of d) (forms_at d c.args.home) c.args.home.0 c.in-Stmt.frame (outcome_in (names_of d) (o.Normal a.Nothing)) finished)
+    puts-none c.args.home c.resume-in-None.result d c.resume-in-None.new.w c.args.fuel.now c.resume-in-None.new.fuel
+    no-lines no-lines
+    (stmt_rest (names_of d) (forms_at d c.args.home) c.args.home.0 c.in-Stmt.frame
+    (outcome_in (names_of d) (o.Normal a.Nothing)) finished)
     (c.resume-in-None.ensures.row no-lines)
 
 pub returns-in_err-charge-in-Begin-clause-keeps : goal.returns-in_err-charge-in-Begin-clause-keeps
@@ -71,12 +75,14 @@ returns-in_err-charge-in-Begin-clause-keeps c = λ r i h.
 pub returns-in_ok-charge-in-Begin-clause-keeps : goal.returns-in_ok-charge-in-Begin-clause-keeps
 returns-in_ok-charge-in-Begin-clause-keeps c = λ r i h.
     c.start.ensures.keeps r i
-    (all-first (MayHold c.args.w.now c.args.home) (task_held c.in-Begin.task) (done_held c.args.done) (rw c.in-Begin.is at h))
+    (all-first (MayHold c.args.w.now c.args.home) (task_held c.in-Begin.task) (done_held c.args.done)
+    (rw c.in-Begin.is at h))
 
 pub returns-in-Anew-clause-keeps : goal.returns-in-Anew-clause-keeps
 returns-in-Anew-clause-keeps c = λ r i h.
     c.start-in-Anew.ensures.keeps r i
-    (all-first (MayHold c.args.w.now c.args.home) (task_held c.in-Anew.task) (done_held c.args.done) (rw c.in-Anew.is at h))
+    (all-first (MayHold c.args.w.now c.args.home) (task_held c.in-Anew.task) (done_held c.args.done)
+    (rw c.in-Anew.is at h))
 
 pub returns-in-Some-clause-keeps : goal.returns-in-Some-clause-keeps
 returns-in-Some-clause-keeps c = λ r i h. c.resume.ensures.keeps r i (rw (c.in-Stmt.is, c.in-Some.is) at h)

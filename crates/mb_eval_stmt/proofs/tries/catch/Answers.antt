@@ -18,10 +18,12 @@ use Rattle.mb_frames.specs.Told.{IsNodeOf}
 use Rattle.mb_frames.specs.declared.statements.StmtFrame.TheVariants as y
 use Rattle.mb_world.specs.Ids.{Maybe}
 use Rattle.mb_eval_stmt.specs.machine.Keeping.{context_held}
-use Rattle.mb_eval_stmt.proofs.Keeping.{entered-then, keeps-halts, keeps-same}
+use Rattle.mb_eval_stmt.proofs.Keeping.{entered-then, keeps-same}
+use Rattle.mb_parts.proofs.Answering.{keeps-halts}
 use Rattle.mb_eval_stmt.proofs.Leaving.{waits-any}
 use Rattle.mb_frames.proofs.Keeping.{statement-if-held, statement-is}
 use Rattle.mb_eval_stmt.proofs.Rows.{inside, node-still}
+use Rattle.mb_frames.specs.Sorts.{ACompletion}
 use Rattle.mb_eval_stmt.proofs.tries.catch.Goals as goal
 
 pub returns-in_err-scope-in-Some-clause-row : goal.returns-in_err-scope-in-Some-clause-row
@@ -58,7 +60,7 @@ pub returns-in_err-scope-in-Some-clause-keeps : goal.returns-in_err-scope-in-Som
 returns-in_err-scope-in-Some-clause-keeps c = λ r i h.
     let p = err_from_is_err_and c.from_residual.result c.from_residual.ensures.1 in
     rw (p.1, p.2)
-    (keeps-halts scope_held c.args.home c.in_err-scope-in-Some.field-0.0 c.args.w.now c.catch_scope.new.w
+    (keeps-halts scope_held c.args.home ACompletion c.in_err-scope-in-Some.field-0.0 c.args.w.now c.catch_scope.new.w
     (c.in_err-scope-in-Some.ensures.keeps r i (h.0, (h.1.1.0, tt))))
 
 pub returns-in_ok-scope-in-Some-clause-keeps : goal.returns-in_ok-scope-in-Some-clause-keeps

@@ -11,8 +11,9 @@ use Rattle.mb_frames.specs.Held.{HeldText, HeldValue}
 use Rattle.mb_frames.specs.Kinds.{is_try_form}
 use Rattle.mb_frames.specs.Standing.{forms_at}
 use Rattle.mb_frames.specs.Keeping.{none_held, scope_held}
-use Rattle.mb_eval_stmt.proofs.Entering.{same-keeps}
-use Rattle.mb_eval_stmt.proofs.Keeping.{answer-halts, answer-then, text-held, try-statement}
+use Rattle.mb_parts.proofs.Answering.{same-keeps}
+use Rattle.mb_eval_stmt.proofs.Keeping.{try-statement}
+use Rattle.mb_parts.proofs.Answering.{answer-halts, answer-then, text-held}
 use Rattle.mb_frames.proofs.Keeping.{inside-still}
 use Rattle.mb_eval_stmt.proofs.tries.catch_scope.Goals as goal
 
@@ -38,7 +39,8 @@ returns-in_ok-initialize-in-Some-clause-enters c = λ this.
 
 pub returns-in_err-inner-in-Some-clause-keeps : goal.returns-in_err-inner-in-Some-clause-keeps
 returns-in_err-inner-in-Some-clause-keeps c = λ r i h.
-    let n = try-statement (slice_get (forms_at c.args.w.now c.args.home) c.args.node.0) (ap is_try_form c.requires.parts.there) in
+    let n = try-statement (slice_get (forms_at c.args.w.now c.args.home) c.args.node.0)
+    (ap is_try_form c.requires.parts.there) in
     let p = err_from_is_err_and c.from_residual.result c.from_residual.ensures.1 in
     rw (p.1, p.2) (c.in_err-inner-in-Some.ensures.keeps n r i (h.0, tt))
 
@@ -51,7 +53,8 @@ returns-in_err-initialize-in-Some-clause-keeps c = λ r i h.
     let k = c.in_ok-inner-in-Some.ensures.keeps n r i (h.0, tt) in
     let g = holds-still home d d1 r k.changed (HeldText c.name_of-name.result ∷ HeldValue c.args.x ∷ [])
     (text-held d home c.name_of-name.result c.name_of-name.ensures.text, (h.1.0, tt)) in
-    let p = err_from_is_err_and c.from_residual-in_err-initialize-in-Some.result c.from_residual-in_err-initialize-in-Some.ensures.1 in
+    let p = err_from_is_err_and c.from_residual-in_err-initialize-in-Some.result
+    c.from_residual-in_err-initialize-in-Some.ensures.1 in
     rw (p.1, p.2)
     (answer-then scope_held home (Err c.in_err-initialize-in-Some.field-0.0) d d1 c.initialize.new.w k.changed
     (answer-halts none_held scope_held home c.in_err-initialize-in-Some.field-0.0 d1 c.initialize.new.w
@@ -71,7 +74,8 @@ returns-in_ok-initialize-in-Some-clause-keeps c = λ r i h.
     (k.holds.0, (g.0, (g.1.0, tt))) in
     record {
       changed = changed-then home d d1 c.initialize.new.w k.changed u.changed;
-      holds = holds-still home d1 c.initialize.new.w k.changed.ready u.changed (scope_held c.in_ok-inner-in-Some.inner) k.holds;
+      holds = holds-still home d1 c.initialize.new.w k.changed.ready u.changed
+          (scope_held c.in_ok-inner-in-Some.inner) k.holds;
     }
 
 pub returns-in-None-clause-keeps : goal.returns-in-None-clause-keeps

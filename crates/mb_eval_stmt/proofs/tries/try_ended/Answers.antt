@@ -24,8 +24,10 @@ pub returns-in-Throw-clause-row : goal.returns-in-Throw-clause-row
 returns-in-Throw-clause-row c = λ begun l.
     let d = c.args.w.now in
     rw c.in-Throw.is
-    (Step-try c.args.home begun c.catch.result d c.catch.new.w c.args.fuel.now c.catch.new.fuel l l c.args.at c.args.node
-    c.in-Some.parts (outcome_in (names_of d) (o.Throw c.in-Throw.x)) c.in-Some.ensures.parts (c.catch.ensures.row begun l))
+    (Step-try c.args.home begun c.catch.result d c.catch.new.w c.args.fuel.now c.catch.new.fuel l l c.args.at
+    c.args.node
+    c.in-Some.parts (outcome_in (names_of d) (o.Throw c.in-Throw.x)) c.in-Some.ensures.parts
+    (c.catch.ensures.row begun l))
 
 pub returns-in-Normal-clause-row : goal.returns-in-Normal-clause-row
 returns-in-Normal-clause-row c = λ begun l.
@@ -45,7 +47,8 @@ returns-in-Return-clause-row c = λ begun l.
     let x = context_in (names_of d) c.args.home.0 c.args.at in
     let y = outcome_in (names_of d) (o.Return c.in-Return.x) in
     rw c.in-Return.is
-    (Step-try c.args.home begun (Ok c.finally-in-Return.result) d d c.args.fuel.now c.args.fuel.now l l c.args.at c.args.node
+    (Step-try c.args.home begun (Ok c.finally-in-Return.result) d d c.args.fuel.now c.args.fuel.now l l c.args.at
+    c.args.node
     c.in-Some.parts y c.in-Some.ensures.parts
     (Step-sure c.args.home begun d (finally x (node_in c.in-Some.parts.ending) y finished) c.finally-in-Return.result
     c.args.fuel.now l
@@ -57,7 +60,8 @@ returns-in-Break-clause-row c = λ begun l.
     let x = context_in (names_of d) c.args.home.0 c.args.at in
     let y = outcome_in (names_of d) o.Break in
     rw c.in-Break.is
-    (Step-try c.args.home begun (Ok c.finally-in-Break.result) d d c.args.fuel.now c.args.fuel.now l l c.args.at c.args.node
+    (Step-try c.args.home begun (Ok c.finally-in-Break.result) d d c.args.fuel.now c.args.fuel.now l l c.args.at
+    c.args.node
     c.in-Some.parts y c.in-Some.ensures.parts
     (Step-sure c.args.home begun d (finally x (node_in c.in-Some.parts.ending) y finished) c.finally-in-Break.result
     c.args.fuel.now l
@@ -69,7 +73,8 @@ returns-in-Continue-clause-row c = λ begun l.
     let x = context_in (names_of d) c.args.home.0 c.args.at in
     let y = outcome_in (names_of d) o.Continue in
     rw c.in-Continue.is
-    (Step-try c.args.home begun (Ok c.finally-in-Continue.result) d d c.args.fuel.now c.args.fuel.now l l c.args.at c.args.node
+    (Step-try c.args.home begun (Ok c.finally-in-Continue.result) d d c.args.fuel.now c.args.fuel.now l l c.args.at
+    c.args.node
     c.in-Some.parts y c.in-Some.ensures.parts
     (Step-sure c.args.home begun d (finally x (node_in c.in-Some.parts.ending) y finished) c.finally-in-Continue.result
     c.args.fuel.now l
@@ -91,7 +96,8 @@ returns-in-Normal-clause-keeps c = λ r i h.
     let g = rw c.in-Normal.is at h in
     let parts = c.in-Some.parts in
     keeps-same home d c.finally.result r
-    (c.finally.ensures.leaves home d (h.0, (h.1.0, (statement-if-held d home parts.ending c.in-Some.ensures.parts.last, tt)))
+    (c.finally.ensures.leaves home d
+    (h.0, (h.1.0, (statement-if-held d home parts.ending c.in-Some.ensures.parts.last, tt)))
     g.1.1)
 
 pub returns-in-Return-clause-keeps : goal.returns-in-Return-clause-keeps
@@ -101,7 +107,8 @@ returns-in-Return-clause-keeps c = λ r i h.
     let g = rw c.in-Return.is at h in
     let parts = c.in-Some.parts in
     keeps-same home d c.finally-in-Return.result r
-    (c.finally-in-Return.ensures.leaves home d (h.0, (h.1.0, (statement-if-held d home parts.ending c.in-Some.ensures.parts.last, tt)))
+    (c.finally-in-Return.ensures.leaves home d
+    (h.0, (h.1.0, (statement-if-held d home parts.ending c.in-Some.ensures.parts.last, tt)))
     g.1.1)
 
 pub returns-in-Break-clause-keeps : goal.returns-in-Break-clause-keeps
@@ -111,7 +118,8 @@ returns-in-Break-clause-keeps c = λ r i h.
     let g = rw c.in-Break.is at h in
     let parts = c.in-Some.parts in
     keeps-same home d c.finally-in-Break.result r
-    (c.finally-in-Break.ensures.leaves home d (h.0, (h.1.0, (statement-if-held d home parts.ending c.in-Some.ensures.parts.last, tt)))
+    (c.finally-in-Break.ensures.leaves home d
+    (h.0, (h.1.0, (statement-if-held d home parts.ending c.in-Some.ensures.parts.last, tt)))
     g.1.1)
 
 pub returns-in-Continue-clause-keeps : goal.returns-in-Continue-clause-keeps
@@ -121,5 +129,6 @@ returns-in-Continue-clause-keeps c = λ r i h.
     let g = rw c.in-Continue.is at h in
     let parts = c.in-Some.parts in
     keeps-same home d c.finally-in-Continue.result r
-    (c.finally-in-Continue.ensures.leaves home d (h.0, (h.1.0, (statement-if-held d home parts.ending c.in-Some.ensures.parts.last, tt)))
+    (c.finally-in-Continue.ensures.leaves home d
+    (h.0, (h.1.0, (statement-if-held d home parts.ending c.in-Some.ensures.parts.last, tt)))
     g.1.1)

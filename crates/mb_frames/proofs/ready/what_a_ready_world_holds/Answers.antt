@@ -1,5 +1,6 @@
-use Rattle.mb_frames.proofs.HeldAs.{built-in-held, held-as}
-use Rattle.mb_frames.proofs.HeldCells.{cell-held, code-held, jobs-held, property-held, reads-home, scope-held}
+use Rattle.mb_frames.proofs.HeldAs.{built-in-held, function-callable, held-as}
+use Rattle.mb_frames.proofs.HeldCells.{cell-held, code-held, constant-held, jobs-held, property-held, reads-home, scope-held}
+use Rattle.mb_frames.proofs.Standard.{is-fixed, is-standard}
 use Rattle.mb_frames.proofs.ready.what_a_ready_world_holds.Goals as goal
 
 pub returns-clause-object : goal.returns-clause-object
@@ -22,6 +23,18 @@ returns-clause-scope c home d id s r e h = scope-held d r home id s e h
 
 pub returns-clause-jobs : goal.returns-clause-jobs
 returns-clause-jobs c home d r i = jobs-held d r home i
+
+pub returns-clause-function : goal.returns-clause-function
+returns-clause-function c home d id h = function-callable d home id h
+
+pub returns-clause-standard : goal.returns-clause-standard
+returns-clause-standard c d id x place r e k = is-standard d r id x place e k
+
+pub returns-clause-fixed : goal.returns-clause-fixed
+returns-clause-fixed c d id x place r e k = is-fixed d r id x place e k
+
+pub returns-clause-constant : goal.returns-clause-constant
+returns-clause-constant c home d place rule key value r e k = constant-held d r home place rule key value e k
 
 pub returns-clause-built_in : goal.returns-clause-built_in
 returns-clause-built_in c home d place id h = built-in-held d home place id h

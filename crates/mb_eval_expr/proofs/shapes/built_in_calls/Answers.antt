@@ -1,7 +1,0 @@
-use Rattle.std.proofs.Common.{◌∙◌}
-use Rattle.mb_eval_expr.proofs.Shaping.{table-is}
-use Rattle.mb_world.specs.Standard.{calls}
-use Rattle.mb_eval_expr.proofs.shapes.built_in_calls.Goals as goal
-
-pub returns : goal.returns
-returns c = c.marked.ensures ∙ table-is calls c.args.place

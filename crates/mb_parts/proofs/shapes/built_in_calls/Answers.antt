@@ -1,0 +1,7 @@
+use Rattle.std.proofs.Common.{◌∙◌}
+use Rattle.mb_parts.proofs.Shaping.{table-is}
+use Rattle.mb_world.specs.Standard.{calls}
+use Rattle.mb_parts.proofs.shapes.built_in_calls.Goals as goal
+
+pub returns : goal.returns
+returns c = c.marked.ensures ∙ table-is calls c.args.place

@@ -1,0 +1,4 @@
+pub mod Standing
+pub mod Scopes
+pub mod Top
+pub mod machine
