@@ -1,0 +1,5 @@
+pub mod Bound
+pub mod Furnished
+pub mod Untouched
+pub mod machine
+pub mod Ours

@@ -1,0 +1,4 @@
+pub mod Table
+pub mod Filling
+pub mod Acting
+pub mod Printing
