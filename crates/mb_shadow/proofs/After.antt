@@ -3,8 +3,8 @@ use Rattle.std.proofs.Common.{◌≡◌, ◌&&◌, ◌⊎◌, inl, inr, List, []
 use Rattle.mb_desc.specs.declared.descriptor.Full.{Full}
 use Rattle.mb_desc.specs.Descriptors.{is_configurable, descriptor_of}
 use Rattle.mb_desc.specs.View.{View}
-use Rattle.mb_view.specs.Views.{property_of, IsFixed, HasDistinctKeys, KeepsFacts}
-use Rattle.mb_view.specs.Changes.{Change, Define, Remove, changed_by, AreAllowed}
+use Rattle.mb_view.specs.Views.{property_of, HasDistinctKeys, KeepsFacts}
+use Rattle.mb_view.specs.Changes.{Change, Define, Remove, changed_by}
 use Rattle.mb_view.specs.Following.{brought_by}
 use Rattle.mb_view.specs.Lean.{IsLean, definition_if_fixed, replacement, followed_key, followed_whole, HasKey, HasWhole}
 use Rattle.mb_view.proofs.Evolving.{keeps-refl}
@@ -17,7 +17,7 @@ use Rattle.mb_world.proofs.Values.{value-same}
 use Rattle.mb_world.proofs.SameKeys.{key-same, key-equal}
 use Rattle.mb_shadow.specs.declared.part.Part.{Part}
 use Rattle.mb_shadow.specs.declared.part.Part.TheVariants as part
-use Rattle.mb_shadow.specs.Following.{IsAfter, HasPart, kept, property_after, extensible_after, prototype_after}
+use Rattle.mb_shadow.specs.Following.{IsAfter, HasPart, kept}
 use Rattle.mb_shadow.specs.Laws.{IsLike, Follows, ShadowsFollow}
 
 abbrev V : Type 0

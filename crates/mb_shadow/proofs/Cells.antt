@@ -1,5 +1,5 @@
 -- Worlds whose cells keep their homes and kinds.
-use Rattle.std.proofs.Common.{◌≡◌, ◌≢◌, ℕ, zero, suc, List, [], ◌∷◌, slice_get, slice_set, Option, Some, None, Bool, true, false, refl, ap, sym, ◌∙◌, ◌⊎◌, inl, inr, option_map, is_some}
+use Rattle.std.proofs.Common.{◌≡◌, ◌≢◌, ℕ, zero, suc, List, [], ◌∷◌, slice_get, slice_set, Some, true, false, refl, ap, ◌∙◌, ◌⊎◌, inl, inr}
 use Rattle.std.specs.Prelude.{All, IsSomeAnd}
 use Rattle.std.proofs.lemmas.List.Elements.{All-weaker}
 use Rattle.mb_base.specs.declared.value.ObjId.{ObjId}

@@ -1,5 +1,5 @@
 -- A plain object changes, and sides go on seeing.
-use Rattle.std.proofs.Common.{◌≡◌, List, ◌∷◌, [], Bool, Option, Some, None, refl, ap, sym, ◌∙◌, subst, option_map}
+use Rattle.std.proofs.Common.{◌≡◌, [], Bool, Some, refl, ap, sym, ◌∙◌, subst, option_map}
 use Rattle.std.specs.Prelude.{All, IsSomeAnd}
 use Rattle.std.proofs.lemmas.List.Elements.{All-weaker, All-cons, All-nil}
 use Rattle.mb_base.specs.declared.value.ObjId.{ObjId}

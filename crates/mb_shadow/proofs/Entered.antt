@@ -1,11 +1,9 @@
 -- Entries stand for what they stood for.
-use Rattle.std.proofs.Common.{◌≡◌, List, [], ◌∷◌, map, Option, Some, None, refl, ap, sym, ◌∙◌, option_map}
+use Rattle.std.proofs.Common.{◌≡◌, List, map, refl}
 use Rattle.std.specs.Prelude.{All}
-use Rattle.mb_base.specs.declared.value.StrId.{StrId}
 use Rattle.mb_base.specs.declared.value.Key.{Key}
 use Rattle.mb_base.specs.declared.value.Key.TheVariants as k
 use Rattle.mb_desc.specs.declared.descriptor.Desc.{Desc}
-use Rattle.mb_text.specs.Texts.{text_at}
 use Rattle.mb_world.specs.declared.entry.Entry.{Entry}
 use Rattle.mb_world.specs.declared.entry.Seen.{Seen}
 use Rattle.mb_world.specs.declared.entry.Seen.TheVariants as s
@@ -13,7 +11,7 @@ use Rattle.mb_world.specs.declared.entry.Said.{Said}
 use Rattle.mb_world.specs.declared.entry.Said.TheVariants as said
 use Rattle.mb_world.specs.Data.{Data}
 use Rattle.mb_world.specs.Grows.{Grows}
-use Rattle.mb_world.specs.Ids.{KeyIn, SeenIn, DescSeenIn, SaidIn, EntryIn, Maybe}
+use Rattle.mb_world.specs.Ids.{KeyIn, SeenIn, DescSeenIn, SaidIn, EntryIn}
 use Rattle.mb_world.specs.Image.{key_by, seen_in, desc_in, said_in, entry_in}
 use Rattle.mb_world.proofs.Images.{map-same, option-same}
 

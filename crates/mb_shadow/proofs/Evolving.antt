@@ -1,9 +1,9 @@
 -- Objects change within what is fixed of them, and shadows stay as they are.
-use Rattle.std.proofs.Common.{◌≡◌, ◌<◌, ◌&&◌, ◌⊎◌, inl, inr, ℕ, List, [], ◌∷◌, ◌++◌, flat_map, length, map, slice_get, Option, Some, None, Bool, true, false, is_some, refl, ap, sym, ◌∙◌, subst, true≢false, if◌then◌else◌, option_map}
-use Rattle.std.specs.Prelude.{All, IsSomeAnd}
+use Rattle.std.proofs.Common.{◌≡◌, ◌&&◌, inl, inr, ℕ, List, [], ◌∷◌, ◌++◌, flat_map, map, slice_get, Option, Some, None, Bool, true, false, is_some, refl, ap, sym, ◌∙◌, subst, true≢false, if◌then◌else◌, option_map}
+use Rattle.std.specs.Prelude.{All}
 use Rattle.std.specs.List.{AllByRecursion}
 use Rattle.std.specs.Map.{lookup}
-use Rattle.std.proofs.lemmas.Option.{slice_get_within, slice_get_cases, slice_get-map}
+use Rattle.std.proofs.lemmas.Option.{slice_get_within, slice_get-map}
 use Rattle.std.proofs.lemmas.List.Elements.{All-head}
 use Rattle.mb_base.specs.declared.value.ObjId.{ObjId}
 use Rattle.mb_base.specs.declared.value.Side.{Side}
@@ -30,11 +30,11 @@ use Rattle.mb_world.specs.Graph as graph
 use Rattle.mb_world.specs.Graph.{Graph, Thing, Kind, Property, Rule, RuleKind, Hide, ReadOnly, Substitute, Revoke}
 use Rattle.mb_world.specs.Objects.{find_property, own_property, thing_at, is_proxy_kind}
 use Rattle.mb_world.specs.Standard.{standard_at}
-use Rattle.mb_world.specs.View.{ViewOf, Shown, view_if, view_by_kind, owner_or, shown_by, shown_property, key_rule, find_key_rule, applies, names_key, foreign_owner, is_for}
-use Rattle.mb_world.specs.Data.{Data, Stand, Counted, AtPlace, Before, Hidden as NoStand, kind_stand, stand, stands, cell_at, is_counted, is_object_cell}
+use Rattle.mb_world.specs.View.{ViewOf, Shown, view_if, view_by_kind, shown_by, key_rule, find_key_rule, applies, names_key, foreign_owner, is_for}
+use Rattle.mb_world.specs.Data.{Data, Stand, Counted, AtPlace, Before, kind_stand, stand, stands, cell_at, is_counted}
 use Rattle.mb_world.specs.Grows.{Grows}
 use Rattle.mb_world.specs.Ids.{HasItsIds, CellIn, KindIn, ObjIn}
-use Rattle.mb_world.specs.Image.{Names, names_of, object_in, number_at, stood, text_in, key_in, full_in, property_in, thing_in, kind_in, rule_in, entry_in, entries_in, Image}
+use Rattle.mb_world.specs.Image.{Names, names_of, object_in, number_at, stood, text_in, property_in, thing_in, kind_in, rule_in, entry_in, entries_in}
 use Rattle.mb_world.specs.Contained.{Contained, Paired, IsMembrane, IsOwn, HasItsTwo, in_cell, in_kind, in_value, in_full, in_option, in_pair, is_shadow}
 use Rattle.mb_world.specs.Formed.{is_of_membrane}
 use Rattle.mb_world.proofs.Grow.{All-at}
@@ -45,7 +45,7 @@ use Rattle.mb_model.specs.Trace.Lawful.{deed_of}
 use Rattle.mb_rules.specs.Seen.{graph_of}
 use Rattle.mb_maps.proofs.Lists.{some-get, some-is, same-some, All-left}
 use Rattle.mb_shadow.specs.Seeing.{cell_view, home_at, view_through}
-use Rattle.mb_shadow.specs.Shadows.{told_of, IsFaithful, Shadowed, Lean}
+use Rattle.mb_shadow.specs.Shadows.{told_of, Shadowed, Lean}
 use Rattle.mb_shadow.specs.Laws.{KeepsKind, KeepsObject, ObjectsEvolve, EvolvingKeepsShadows}
 use Rattle.mb_shadow.proofs.Entered.{entries-by}
 use Rattle.mb_shadow.proofs.Holds.{pair, view-grows}

@@ -1,22 +1,18 @@
 -- Shadows go on showing what was seen and told.
-use Rattle.std.proofs.Common.{◌≡◌, ◌≢◌, ◌<◌, ◌≤◌, ◌&&◌, ◌++◌, ◌+◌, ℕ, zero, suc, nat_eq, List, [], ◌∷◌, length, map, take, slice_get, Option, Some, None, Bool, true, false, refl, ap, sym, ◌∙◌, ◌⊎◌, inl, inr, subst, arith, true≢false, if◌then◌else◌, option_map}
-use Rattle.std.specs.Prelude.{All, IsSomeAnd}
+use Rattle.std.proofs.Common.{◌≡◌, ◌≢◌, ◌<◌, ◌≤◌, ◌&&◌, ℕ, zero, suc, nat_eq, List, [], ◌∷◌, length, map, slice_get, Some, None, Bool, true, false, refl, ap, sym, ◌∙◌, inl, inr, subst, arith, option_map}
 use Rattle.std.specs.List.{AllByRecursion}
 use Rattle.std.specs.Map.{lookup}
 use Rattle.std.proofs.lemmas.Bool.{eqb-true}
 use Rattle.std.proofs.lemmas.Option.{slice_get_cases, slice_get_within, slice_get-map, get_or_from_slice_get}
-use Rattle.std.proofs.lemmas.List.Elements.{All-head, All-tail}
 use Rattle.mb_base.specs.declared.value.ObjId.{ObjId}
 use Rattle.mb_base.specs.declared.value.Side.{Side}
-use Rattle.mb_desc.specs.declared.descriptor.Full.{Full}
 use Rattle.mb_desc.specs.View.{View}
-use Rattle.mb_view.specs.Views.{property_of, KeepsFacts}
+use Rattle.mb_view.specs.Views.{KeepsFacts}
 use Rattle.mb_view.specs.Promises.{Fact, Holds}
 use Rattle.mb_view.specs.Entries as deed
 use Rattle.mb_view.specs.Entries.{Told, told_from, told_by, is_of}
 use Rattle.mb_view.specs.Lean.{IsLean}
 use Rattle.mb_view.proofs.Staying.{holds-later}
-use Rattle.mb_view.proofs.Evolving.{facts-refl}
 use Rattle.mb_world.specs.declared.cell.Cell.{Cell}
 use Rattle.mb_world.specs.declared.cell.Shape.{Shape}
 use Rattle.mb_world.specs.declared.cell.CellKind.{CellKind}
@@ -26,7 +22,7 @@ use Rattle.mb_world.specs.Value.{Val}
 use Rattle.mb_world.specs.Key.{PropertyKey, same_key}
 use Rattle.mb_world.specs.Graph.{Graph}
 use Rattle.mb_world.specs.View.{ViewOf}
-use Rattle.mb_world.specs.Data.{Data, Counted, Hidden, stand, stands, is_counted, is_object_cell, cell_at, serial_of, next_if, number_if}
+use Rattle.mb_world.specs.Data.{Data, Counted, Hidden, stand, stands, is_counted, is_object_cell, cell_at, serial_of, next_if}
 use Rattle.mb_world.specs.Grows.{Grows}
 use Rattle.mb_world.specs.Ids.{HasItsIds, CellIn, KindIn, ObjIn}
 use Rattle.mb_world.specs.Image.{names_of, number_at, object_in, entry_in, entries_in}

@@ -1,7 +1,6 @@
 -- A shadow followed a key, or the whole.
-use Rattle.std.proofs.Common.{◌≡◌, ◌≢◌, ◌&&◌, ◌||◌, [], ◌∷◌, Option, Some, None, Bool, true, false, not, is_some, refl, ap, sym, ◌∙◌, subst, true≢false, if◌then◌else◌, option_map, Result, Ok, Err}
-use Rattle.std.specs.Prelude.{IfSome, IsSomeAnd, OnOk}
-use Rattle.std.specs.Option.{option_and_then}
+use Rattle.std.proofs.Common.{◌≡◌, ◌&&◌, ◌||◌, [], ◌∷◌, Option, Some, None, Bool, true, false, not, refl, ap, sym, ◌∙◌, true≢false, if◌then◌else◌, option_map}
+use Rattle.std.specs.Prelude.{IfSome, IsSomeAnd}
 use Rattle.mb_base.specs.declared.value.ObjId.{ObjId}
 use Rattle.mb_base.specs.declared.value.Key.{Key}
 use Rattle.mb_base.specs.declared.value.Value.{Value}
@@ -18,8 +17,8 @@ use Rattle.mb_world.specs.Key.{PropertyKey, same_key}
 use Rattle.mb_world.specs.Graph.{Thing}
 use Rattle.mb_world.specs.View.{Shown, shown_property}
 use Rattle.mb_world.specs.Data.{Data, cell_at}
-use Rattle.mb_world.specs.Image.{Names, names_of, Resolve, key_in, full_in, thing_in, object_of, object_at}
-use Rattle.mb_world.specs.Contained.{IsMembrane, is_shadow}
+use Rattle.mb_world.specs.Image.{Names, names_of, Resolve, key_in, full_in, object_of, object_at}
+use Rattle.mb_world.specs.Contained.{is_shadow}
 use Rattle.mb_world.proofs.SameKeys.{key-equal}
 use Rattle.mb_rules.specs.Seen.{graph_of}
 use Rattle.mb_rules.proofs.Views.{from-object}
@@ -28,10 +27,10 @@ use Rattle.mb_maps.proofs.Lists.{some-get, same-some}
 use Rattle.mb_shadow.specs.declared.part.Part.{Part}
 use Rattle.mb_shadow.specs.declared.part.Part.TheVariants as part
 use Rattle.mb_shadow.specs.declared.sight.Sight.{Sight}
-use Rattle.mb_shadow.specs.Seeing.{CanSee, IsProxy, is_membrane, cell_view, home_at, shadow_at, shadow_view, view_through}
-use Rattle.mb_shadow.specs.Following.{Followed, IsAfter, IsFollowed, kept, property_after, extensible_after, prototype_after}
+use Rattle.mb_shadow.specs.Seeing.{CanSee, IsProxy, is_membrane, cell_view, shadow_at, shadow_view, view_through}
+use Rattle.mb_shadow.specs.Following.{Followed, IsAfter, IsFollowed, kept}
 use Rattle.mb_shadow.specs.machine.Sights.{IsSight, view_of, seen_in, seen_at, held_in, held_at, flagged, flags_at, is_fixed, Replaced, ReplacedAll, FollowedFrom}
-use Rattle.mb_shadow.proofs.Holds.{held-stays, flags-stay}
+use Rattle.mb_shadow.proofs.Holds.{held-stays}
 use Rattle.mb_shadow.proofs.Stable.{shadow-of, seen-shown, view-stays}
 
 -- ---- cells and what they have

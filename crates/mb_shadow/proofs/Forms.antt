@@ -1,5 +1,5 @@
 -- A cell that is formed stays so where cells keep their homes and kinds, and objects what is read of them.
-use Rattle.std.proofs.Common.{◌≡◌, ◌<◌, ◌^◌, ℕ, ℤ, pos, List, [], ◌∷◌, Option, Some, None, Bool, true, false, refl, ap, sym, ◌∙◌, subst, true≢false, option_map}
+use Rattle.std.proofs.Common.{◌≡◌, ℤ, pos, List, [], ◌∷◌, Option, Some, None, Bool, true, false, refl, ap, sym, ◌∙◌, subst, true≢false, option_map}
 use Rattle.std.specs.Prelude.{All, IsSomeAnd}
 use Rattle.std.specs.List.{IsDistinct, AllByRecursion}
 use Rattle.std.proofs.lemmas.List.Elements.{All-head, All-tail, All-cons, All-nil}
@@ -18,14 +18,14 @@ use Rattle.mb_world.specs.declared.cell.Shape.{Shape}
 use Rattle.mb_world.specs.declared.cell.Shape.TheVariants.{Plain as PlainShape}
 use Rattle.mb_world.specs.Graph.{Thing}
 use Rattle.mb_world.specs.Grows.{Grows}
-use Rattle.mb_world.specs.Objects.{is_callable, kind_calls, is_proxy_kind, shape_of_kind, shape_of_thing, thing_at, thing_is}
-use Rattle.mb_world.specs.Value.{Val, Undefined, Null, Truth, Whole, Text, Symbol, is_object, same_value}
+use Rattle.mb_world.specs.Objects.{is_callable, kind_calls, is_proxy_kind, shape_of_kind, shape_of_thing, thing_is}
+use Rattle.mb_world.specs.Value.{Undefined, Null, Truth, Whole, Text, Symbol, is_object}
 use Rattle.mb_world.specs.Data.{Data, cell_at}
 use Rattle.mb_world.specs.Ids.{ObjIn, CellIn, KindIn, ValueIn, FullIn, PropertyIn, PairIn, Maybe}
 use Rattle.mb_world.specs.Image.{Names, Image, names_of, text_in, Resolve, full_in}
 use Rattle.mb_world.specs.Laws.{Becomes, same_graph}
-use Rattle.mb_world.specs.Formed.{FormedCell, InRange, IsNullOrObject, full_values, HasItsCallables, IsCallable, IsCallableOrNot, IsArray, HasLength, HasItsSlots, HasItsKind, IsFunction, IsProxyKind, thing_of, same_pair_key}
-use Rattle.mb_world.proofs.Images.{value-grows, full-grows}
+use Rattle.mb_world.specs.Formed.{FormedCell, InRange, IsNullOrObject, full_values, HasItsCallables, IsCallable, IsCallableOrNot, IsArray, HasLength, HasItsSlots, HasItsKind, IsProxyKind, thing_of, same_pair_key}
+use Rattle.mb_world.proofs.Images.{value-grows}
 use Rattle.mb_world.proofs.Values.{object-object}
 use Rattle.mb_maps.proofs.Forming.{thing-stays}
 use Rattle.mb_shadow.proofs.Cells.{KeepsFaces, faces-some}

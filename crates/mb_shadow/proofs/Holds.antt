@@ -1,5 +1,5 @@
 -- What a cell has at a key, for what it stands for, before a change and after.
-use Rattle.std.proofs.Common.{◌≡◌, ℕ, List, [], ◌∷◌, map, Option, Some, None, Bool, true, false, is_some, refl, ap, sym, ◌∙◌, subst, if◌then◌else◌, option_map}
+use Rattle.std.proofs.Common.{◌≡◌, List, [], ◌∷◌, map, Some, None, Bool, true, false, refl, ap, sym, ◌∙◌, if◌then◌else◌, option_map}
 use Rattle.std.specs.Prelude.{All}
 use Rattle.std.specs.List.{IsDistinct, AllByRecursion}
 use Rattle.std.specs.Map.{keys_of, lookup, remove_entry}
@@ -17,16 +17,14 @@ use Rattle.mb_view.proofs.Tables.{same_key-sym, lookup-insert, lookup-remove}
 use Rattle.mb_world.specs.declared.cell.Cell.{Cell}
 use Rattle.mb_world.specs.Value.{Val}
 use Rattle.mb_world.specs.Key.{PropertyKey, same_key}
-use Rattle.mb_world.specs.Objects.{find_property}
 use Rattle.mb_world.specs.Data.{Data, cell_at, put_in, remove_in, set_cell}
 use Rattle.mb_world.specs.Grows.{Grows}
-use Rattle.mb_world.specs.Ids.{KeyIn, FullIn, PropertyIn, CellIn}
-use Rattle.mb_world.specs.Image.{Names, names_of, Resolve, key_in, full_in, property_in}
+use Rattle.mb_world.specs.Ids.{KeyIn, PropertyIn, CellIn}
+use Rattle.mb_world.specs.Image.{Names, names_of, key_in, full_in}
 use Rattle.mb_world.proofs.Grow.{All-at}
 use Rattle.mb_world.proofs.Images.{map-same, value-grows, key-grows, full-grows}
 use Rattle.mb_world.proofs.SameKeys.{key-same, key-equal, own-equal}
 use Rattle.mb_world.proofs.SameKeys as keys
-use Rattle.mb_maps.specs.Crossed.{Crossed}
 use Rattle.mb_shadow.specs.Seeing.{CanSee, cell_view}
 use Rattle.mb_shadow.specs.machine.Sights.{held_in, held_at, flagged, flags_at}
 use Rattle.mb_shadow.proofs.Setting.{set-there, same-stands}

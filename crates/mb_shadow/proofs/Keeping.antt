@@ -1,11 +1,10 @@
 -- Sides see in formed worlds, and these stay so where a shadow follows.
-use Rattle.std.proofs.Common.{◌≡◌, ◌≢◌, ◌<◌, ℕ, List, [], Bool, Some, true, false, refl, ap, sym, ◌∙◌, subst, true≢false}
+use Rattle.std.proofs.Common.{◌≡◌, ◌≢◌, ℕ, List, [], Bool, Some, true, false, refl, ap, sym, ◌∙◌, subst, true≢false}
 use Rattle.std.specs.Prelude.{All}
 use Rattle.std.proofs.lemmas.List.Elements.{All-head, All-cons, All-nil}
 use Rattle.mb_base.specs.declared.value.ObjId.{ObjId}
 use Rattle.mb_base.specs.declared.value.Side.{Side}
 use Rattle.mb_base.specs.declared.value.Value.{Value}
-use Rattle.mb_base.specs.declared.value.Value.TheVariants as v
 use Rattle.mb_world.specs.declared.cell.Cell.{Cell}
 use Rattle.mb_world.specs.declared.cell.CellKind.{CellKind}
 use Rattle.mb_world.specs.declared.cell.CellKind.TheVariants.{BuiltIn, Membrane}
@@ -14,7 +13,7 @@ use Rattle.mb_world.specs.declared.scope.Job.TheVariants as j
 use Rattle.mb_world.specs.Graph as graph
 use Rattle.mb_world.specs.Data.{Data, Script, cell_at, built_in_of}
 use Rattle.mb_world.specs.Ids.{CellIn, JobIn, ValueIn}
-use Rattle.mb_world.specs.Image.{names_of, thing_in, Resolve}
+use Rattle.mb_world.specs.Image.{names_of, thing_in}
 use Rattle.mb_world.specs.Contained.{Contained, HasItsTwo, IsOfTable, is_shadow}
 use Rattle.mb_world.specs.Formed.{FormedBy, FormedCell, HasBuiltIn, IsCallable, as_standard, job_values}
 use Rattle.mb_world.proofs.Grow.{All-at}

@@ -1,5 +1,5 @@
 -- The keys that are seen, one after the other.
-use Rattle.std.proofs.Common.{◌≡◌, ◌<◌, ◌≤◌, ◌+◌, ℕ, List, [], ◌∷◌, ◌++◌, length, map, take, slice_get, get_or, Option, Some, None, Bool, true, false, is_some, filter_map, refl, ap, sym, ◌∙◌, subst, if◌then◌else◌, option_map, Result, Ok, Err}
+use Rattle.std.proofs.Common.{◌≡◌, ◌<◌, ◌≤◌, ◌+◌, ℕ, List, [], ◌∷◌, ◌++◌, length, map, take, get_or, Option, Some, None, Bool, true, false, is_some, filter_map, refl, ap, sym, ◌∙◌, subst, option_map, Result, Ok, Err}
 use Rattle.std.specs.Prelude.{All, IfSome, IfOk}
 use Rattle.std.specs.Map.{keys_of}
 use Rattle.std.proofs.lemmas.List.{map-append, take_more}
@@ -13,7 +13,7 @@ use Rattle.mb_world.specs.Key.{PropertyKey, same_key, keys_in_order}
 use Rattle.mb_world.specs.Graph.{Thing}
 use Rattle.mb_world.specs.Objects.{property_keys}
 use Rattle.mb_world.specs.View.{shown_property, with_key, Shown}
-use Rattle.mb_world.specs.Data.{Data, cell_at}
+use Rattle.mb_world.specs.Data.{Data}
 use Rattle.mb_world.specs.Ids.{KeyIn}
 use Rattle.mb_world.specs.Image.{names_of, key_in, full_in, object_of, object_at}
 use Rattle.mb_rules.specs.Seen.{graph_of}

@@ -20,10 +20,10 @@ use Rattle.mb_world.specs.Graph.{Thing, Rule, RuleKind, Hide, ReadOnly, Substitu
 use Rattle.mb_world.specs.Objects.{own_property}
 use Rattle.mb_world.specs.View.{applies, names_key, find_key_rule, key_rule, shown_by, shown_property}
 use Rattle.mb_world.specs.Data.{Data, cell_at, property_at, property_in}
-use Rattle.mb_world.specs.Ids.{FullIn, ValueIn, CellIn}
+use Rattle.mb_world.specs.Ids.{FullIn, CellIn}
 use Rattle.mb_world.specs.Image.{Names, names_of, Resolve, key_in, full_in, object_of, object_at}
 use Rattle.mb_world.specs.Contained.{IsOwn, in_cell, in_kind, in_value, in_full}
-use Rattle.mb_world.specs.Formed.{FormedCell, IsNullOrObject, HasItsCallables, InRange, full_values, kind_values, cell_values}
+use Rattle.mb_world.specs.Formed.{FormedCell, IsNullOrObject, InRange, full_values, kind_values}
 use Rattle.mb_world.proofs.Grow.{All-at}
 use Rattle.mb_world.proofs.Values.{object-object}
 use Rattle.mb_rules.specs.Seen.{graph_of}

@@ -1,5 +1,5 @@
 -- A shadow has what is seen, of one key after the other.
-use Rattle.std.proofs.Common.{◌≡◌, ◌<◌, ◌≤◌, ◌+◌, ◌++◌, ◌||◌, ℕ, zero, suc, List, [], ◌∷◌, length, map, take, get_or, arith, Vec, Global, Option, Some, None, Bool, true, false, is_some, refl, ap, sym, ◌∙◌, subst, if◌then◌else◌, option_map, Result, Ok, Err}
+use Rattle.std.proofs.Common.{◌≡◌, ◌<◌, ◌≤◌, ◌+◌, ◌++◌, ◌||◌, ℕ, List, [], ◌∷◌, length, map, take, get_or, Vec, Global, Option, Some, None, Bool, true, false, is_some, refl, ap, sym, ◌∙◌, subst, if◌then◌else◌, option_map, Result, Ok, Err}
 use Rattle.std.specs.Prelude.{All, IfSome, IfOk, OnOk}
 use Rattle.std.specs.List.{list_any}
 use Rattle.std.specs.Map.{keys_of, lookup}
@@ -8,30 +8,27 @@ use Rattle.mb_base.specs.declared.value.ObjId.{ObjId}
 use Rattle.mb_base.specs.declared.value.Key.{Key}
 use Rattle.mb_base.specs.declared.value.Value.{Value}
 use Rattle.mb_desc.specs.declared.descriptor.Full.{Full}
-use Rattle.mb_desc.specs.View.{View}
-use Rattle.mb_view.specs.Views.{property_of}
 use Rattle.mb_view.proofs.Tables.{any-lookup, same_key-sym}
 use Rattle.mb_world.specs.declared.cell.Cell.{Cell}
 use Rattle.mb_world.specs.Value.{Val}
 use Rattle.mb_world.specs.Key.{PropertyKey, same_key, has_key, keys_in_order}
-use Rattle.mb_world.specs.Graph.{Thing, Property}
+use Rattle.mb_world.specs.Graph.{Thing}
 use Rattle.mb_world.specs.Objects.{find_property, property_keys}
-use Rattle.mb_world.specs.View.{Shown, shown_property}
+use Rattle.mb_world.specs.View.{Shown}
 use Rattle.mb_world.specs.Data.{Data, cell_at}
 use Rattle.mb_world.specs.Ids.{KeyIn}
 use Rattle.mb_world.specs.Image.{Names, names_of, key_in, full_in, property_in, object_of, object_at}
-use Rattle.mb_world.proofs.Grow.{KeyIn-grows}
 use Rattle.mb_world.proofs.Images.{key-grows, map-same}
-use Rattle.mb_world.proofs.SameKeys.{key-equal, key-same}
+use Rattle.mb_world.proofs.SameKeys.{key-equal}
 use Rattle.mb_rules.specs.Seen.{graph_of}
 use Rattle.mb_maps.specs.Crossed.{Crossed}
-use Rattle.mb_shadow.specs.Seeing.{CanSee, cell_view}
+use Rattle.mb_shadow.specs.Seeing.{CanSee}
 use Rattle.mb_shadow.specs.Following.{Followed}
 use Rattle.mb_shadow.specs.declared.sight.Sight.{Sight}
-use Rattle.mb_shadow.specs.machine.Sights.{IsSight, view_of, seen_in, seen_at, held_in, held_at, flags_at, Held, Replaced, ReplacedAll}
+use Rattle.mb_shadow.specs.machine.Sights.{IsSight, view_of, seen_at, held_in, held_at, flags_at, Held, Replaced, ReplacedAll}
 use Rattle.mb_shadow.proofs.Parts.{take-whole}
 use Rattle.mb_shadow.proofs.Shown.{any-in_order, any-keys}
-use Rattle.mb_shadow.proofs.Steps.{followed-same, followed-then, followed-crossed}
+use Rattle.mb_shadow.proofs.Steps.{followed-same, followed-then}
 use Rattle.mb_shadow.proofs.Holds.{pair, held-stays, flags-stay}
 use Rattle.mb_shadow.proofs.Stable.{shadow-of, shadow-in, seen-shown, seen-stays}
 

@@ -1,6 +1,6 @@
 -- Sides go on seeing through their proxies.
-use Rattle.std.proofs.Common.{◌≡◌, ◌<◌, ◌≤◌, ℕ, List, [], ◌∷◌, zero, suc, length, true≢false, slice_get, slice_set, option_map, Some, Bool, true, false, refl, ap, sym, ◌∙◌, ◌⊎◌, inl, inr, subst}
-use Rattle.std.specs.Prelude.{All, IsSomeAnd}
+use Rattle.std.proofs.Common.{◌≡◌, ℕ, List, [], ◌∷◌, zero, suc, true≢false, slice_get, slice_set, option_map, Some, true, false, refl, ap, sym, ◌∙◌, inl, inr, subst}
+use Rattle.std.specs.Prelude.{All}
 use Rattle.std.proofs.lemmas.Option.{slice_get_cases, slice_get-map}
 use Rattle.std.proofs.lemmas.List.Elements.{All-set}
 use Rattle.mb_base.specs.declared.value.ObjId.{ObjId}
@@ -11,7 +11,6 @@ use Rattle.mb_world.specs.declared.cell.CellKind.TheVariants.{BuiltIn, Shadow}
 use Rattle.mb_world.specs.Value.{Val, Object}
 use Rattle.mb_world.specs.Graph.{Graph, Rule, Thing, Kind}
 use Rattle.mb_world.specs.Objects.{thing_at, kind_calls, is_proxy_kind, shape_of_kind}
-use Rattle.mb_world.specs.Standard.{standard_at}
 use Rattle.mb_world.specs.Data.{Data, Counted, AtPlace, cell_at, set_cell, is_counted, kind_stand, stand}
 use Rattle.mb_world.specs.Grows.{Grows}
 use Rattle.mb_world.specs.Ids.{Hold, HasItsIds, CellIn}
@@ -24,12 +23,12 @@ use Rattle.mb_world.proofs.Images.{thing-grows}
 use Rattle.mb_world.proofs.AfterCalls.{of-changed, of-hidden-changed, thing-at}
 use Rattle.mb_rules.specs.Seen.{graph_of}
 use Rattle.mb_maps.specs.Crossing.{halted}
-use Rattle.mb_maps.specs.Crossed.{CanCross, Crossed, IsNew}
+use Rattle.mb_maps.specs.Crossed.{Crossed, IsNew}
 use Rattle.mb_maps.proofs.Forming.{formed-stays, thing-stays}
 use Rattle.mb_maps.proofs.Lists.{same-some, obj-same}
 use Rattle.mb_maps.proofs.Worlds.{crossed-halted}
 use Rattle.mb_shadow.specs.Seeing.{CanSee, HasConstant, AreStandard}
-use Rattle.mb_shadow.proofs.Cells.{KeepsFaces, same-or-not}
+use Rattle.mb_shadow.proofs.Cells.{same-or-not}
 use Rattle.mb_shadow.proofs.Forms.{face, KeepsThings, formed-as}
 use Rattle.mb_shadow.proofs.Parts.{all-each}
 use Rattle.mb_shadow.proofs.Setting.{set-there, set-other, set-faces, set-can_cross}

@@ -1,23 +1,22 @@
 -- A world with another cell in the place of one of that home and kind.
-use Rattle.std.proofs.Common.{◌≡◌, ◌≢◌, ◌<◌, ◌≤◌, ℕ, List, [], ◌∷◌, length, slice_get, slice_set, Option, Some, None, Bool, true, false, refl, ap, sym, ◌∙◌, ◌⊎◌, inl, inr, is_some, subst}
-use Rattle.std.specs.Prelude.{All, IsSomeAnd}
+use Rattle.std.proofs.Common.{◌≡◌, ◌≢◌, Option, Some, None, true, false, refl, ap, sym, ◌∙◌, inl, inr, is_some, subst}
+use Rattle.std.specs.Prelude.{All}
 use Rattle.std.proofs.lemmas.List.Elements.{All-weaker, All-set}
 use Rattle.mb_base.specs.declared.value.ObjId.{ObjId}
 use Rattle.mb_base.specs.declared.value.Side.{Side}
 use Rattle.mb_world.specs.declared.cell.Cell.{Cell}
 use Rattle.mb_world.specs.declared.cell.CellKind.{CellKind}
-use Rattle.mb_world.specs.declared.cell.CellKind.TheVariants.{Membrane, BuiltIn}
 use Rattle.mb_world.specs.declared.entry.Entry.{Entry}
 use Rattle.mb_world.specs.declared.scope.Scope.{Scope}
 use Rattle.mb_world.specs.declared.scope.Job.{Job}
-use Rattle.mb_world.specs.Data.{Data, AtPlace, kind_stand, stand, stands, cell_at, queue_of, set_cell, built_in_of}
+use Rattle.mb_world.specs.Data.{Data, kind_stand, stands, cell_at, queue_of, set_cell, built_in_of}
 use Rattle.mb_world.specs.Contained.{Contained, Paired, PairedFrom, IsOwn, HasItsTwo, IsOfTable, IsMembrane, HasProxyOf, in_cell, in_scope, in_job}
 use Rattle.mb_world.proofs.Grow.{All-at}
 use Rattle.mb_world.proofs.Stands.{stands-set}
 use Rattle.mb_maps.specs.Crossed.{CanCross, AreShared}
 use Rattle.mb_maps.proofs.Lists.{obj-same, same-some}
-use Rattle.mb_maps.proofs.Counterparts.{IsBuiltIn, built-in-is, built-in-found}
-use Rattle.mb_shadow.proofs.Cells.{get-set, get-other, same-or-not, KeepsFaces, own-moves, owns-move, two-move, counted-moves, membrane-moves}
+use Rattle.mb_maps.proofs.Counterparts.{built-in-is, built-in-found}
+use Rattle.mb_shadow.proofs.Cells.{get-set, get-other, same-or-not, KeepsFaces, owns-move, two-move, counted-moves, membrane-moves}
 
 module _ (a : Data) (id : ObjId) (c x : Cell) (there : cell_at a id ≡ Some c) (home : x.home ≡ c.home) (kind : x.kind ≡ c.kind) where
   abbrev pub b : Data

@@ -1,5 +1,5 @@
 -- The world in which the tests begin: objects without references, and rules.
-use Rattle.std.proofs.Common.{◌≡◌, ◌<◌, ◌++◌, ℕ, zero, suc, List, [], ◌∷◌, map, slice_get, slice_index_or, Option, Some, None, Bool, true, false, is_some, refl, ap, sym, ◌∙◌, subst, arith}
+use Rattle.std.proofs.Common.{◌≡◌, ◌<◌, ◌++◌, ℕ, zero, suc, List, [], ◌∷◌, map, slice_index_or, Option, Some, None, true, false, refl, ap, sym, ◌∙◌, subst, arith}
 use Rattle.std.specs.Prelude.{All}
 use Rattle.std.proofs.lemmas.List.Elements.{All-nil, All-cons, All-append, All-head, All-tail, All-weaker}
 use Rattle.mb_base.specs.declared.value.ObjId.{ObjId}
@@ -8,22 +8,20 @@ use Rattle.mb_base.specs.declared.value.StrId.{StrId}
 use Rattle.mb_base.specs.declared.value.Value.TheVariants as v
 use Rattle.mb_text.specs.Texts.{AreDistinct}
 use Rattle.mb_world.specs.declared.cell.Cell.{Cell}
-use Rattle.mb_world.specs.declared.cell.Shape.{Shape}
 use Rattle.mb_world.specs.declared.cell.CellKind.{CellKind}
-use Rattle.mb_world.specs.declared.cell.CellKind.TheVariants.{Plain, Proxy, BuiltIn, Membrane}
+use Rattle.mb_world.specs.declared.cell.CellKind.TheVariants.{Plain, Proxy, Membrane}
 use Rattle.mb_world.specs.declared.entry.Entry.{Entry}
 use Rattle.mb_world.specs.declared.rule.Rule.{Rule as WorldRule}
 use Rattle.mb_world.specs.declared.scope.Scope.{Scope}
 use Rattle.mb_world.specs.declared.scope.Job.{Job}
 use Rattle.mb_world.specs.Graph.{Rule}
-use Rattle.mb_world.specs.Data.{Data, AtPlace, fresh, kind_stand, cell_at, queue_of, with_texts, made}
+use Rattle.mb_world.specs.Data.{Data, AtPlace, fresh, kind_stand, cell_at, with_texts, made}
 use Rattle.mb_world.specs.Ids.{HasItsIds}
 use Rattle.mb_world.specs.Image.{Names, names_of, rule_in}
 use Rattle.mb_world.specs.Contained.{Contained, Paired, IsOwn, IsMembrane, HasItsTwo, HasProxyOf, IsOfTable, in_cell, in_scope, in_job}
 use Rattle.mb_world.specs.Formed.{FormedCell, InRange, HasItsCallables}
 use Rattle.mb_world.proofs.Grow.{All-at}
-use Rattle.mb_maps.specs.Crossed.{CanCross, AreShared}
-use Rattle.mb_shadow.specs.Seeing.{CanSee, AreStandard, HasConstant}
+use Rattle.mb_shadow.specs.Seeing.{CanSee, HasConstant}
 
 -- ---- cells that refer to nothing
 

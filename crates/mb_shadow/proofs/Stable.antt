@@ -1,10 +1,9 @@
 -- What is seen stays where a shadow follows it.
-use Rattle.std.proofs.Common.{◌≡◌, ◌≢◌, ℕ, [], Option, Some, None, Bool, true, false, refl, ap, sym, ◌∙◌, subst, true≢false, is_some, option_map}
-use Rattle.std.specs.Prelude.{IsSomeAnd, IfSome}
+use Rattle.std.proofs.Common.{◌≡◌, ◌≢◌, [], Option, Some, None, true, refl, ap, sym, ◌∙◌, true≢false, is_some, option_map}
+use Rattle.std.specs.Prelude.{IfSome}
 use Rattle.std.specs.Option.{option_and_then}
 use Rattle.std.proofs.lemmas.Option.{slice_get_within}
 use Rattle.mb_base.specs.declared.value.ObjId.{ObjId}
-use Rattle.mb_desc.specs.declared.descriptor.Full.{Full}
 use Rattle.mb_desc.specs.View.{View}
 use Rattle.mb_view.specs.Views.{property_of}
 use Rattle.mb_world.specs.declared.cell.Cell.{Cell}
@@ -20,10 +19,10 @@ use Rattle.mb_world.proofs.Grow.{All-at}
 use Rattle.mb_world.proofs.Images.{thing-grows}
 use Rattle.mb_rules.specs.Seen.{graph_of}
 use Rattle.mb_maps.proofs.Lists.{some-get, same-some}
-use Rattle.mb_shadow.specs.Seeing.{CanSee, home_at, view_through}
+use Rattle.mb_shadow.specs.Seeing.{CanSee, view_through}
 use Rattle.mb_shadow.specs.Following.{Followed}
 use Rattle.mb_shadow.specs.declared.sight.Sight.{Sight}
-use Rattle.mb_shadow.specs.machine.Sights.{IsSight, IsShadow, view_of, seen_in, seen_at}
+use Rattle.mb_shadow.specs.machine.Sights.{IsSight, view_of, seen_in, seen_at}
 use Rattle.mb_shadow.proofs.Shown.{seen-at}
 
 -- the shadow of what is seen

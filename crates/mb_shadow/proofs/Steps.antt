@@ -1,16 +1,15 @@
 -- What following leaves, step by step.
-use Rattle.std.proofs.Common.{◌≡◌, ◌≢◌, ◌<◌, ◌≤◌, ℕ, length, slice_get, Some, Bool, true, refl, ap, sym, ◌∙◌, ◌⊎◌, inl, inr, arith}
+use Rattle.std.proofs.Common.{◌≡◌, ◌≢◌, ◌≤◌, length, Some, true, refl, ap, sym, ◌∙◌, inl, inr, arith}
 use Rattle.std.specs.Prelude.{All}
 use Rattle.std.proofs.lemmas.Option.{slice_get_cases, slice_get_within}
 use Rattle.std.proofs.lemmas.List.{length-set}
 use Rattle.mb_base.specs.declared.value.ObjId.{ObjId}
-use Rattle.mb_base.specs.declared.value.Side.{Side}
 use Rattle.mb_world.specs.declared.cell.Cell.{Cell}
 use Rattle.mb_world.specs.declared.cell.CellKind.{CellKind}
 use Rattle.mb_world.specs.declared.cell.CellKind.TheVariants.{Membrane, Shadow}
 use Rattle.mb_world.specs.Data.{Data, cell_at, set_cell}
 use Rattle.mb_world.specs.Ids.{CellIn, ObjIn}
-use Rattle.mb_world.specs.Contained.{IsOwn, PairedFrom, IsMembrane, in_cell, is_shadow}
+use Rattle.mb_world.specs.Contained.{IsOwn, PairedFrom, in_cell, is_shadow}
 use Rattle.mb_world.specs.Formed.{FormedCell}
 use Rattle.mb_world.proofs.Grow.{All-at, CellIn-grows}
 use Rattle.mb_maps.specs.Crossing.{halted}
@@ -22,7 +21,7 @@ use Rattle.mb_shadow.specs.Seeing.{CanSee}
 use Rattle.mb_shadow.specs.Following.{Followed, KeepsShadow}
 use Rattle.mb_shadow.proofs.Cells.{KeepsFaces, membrane-moves, same-or-not}
 use Rattle.mb_shadow.proofs.Setting.{set-there, set-other}
-use Rattle.mb_shadow.proofs.Sees.{can-see-crossed, can-see-halted, set-becomes, can-see-set}
+use Rattle.mb_shadow.proofs.Sees.{can-see-crossed, set-becomes, can-see-set}
 
 keeps-same : (c : Cell) → KeepsShadow c c
 keeps-same c = record { home = refl; kind = refl; label = refl; slots = refl }

@@ -1,27 +1,23 @@
 -- Where what is seen through a proxy comes from.
-use Rattle.std.proofs.Common.{◌≡◌, ◌<◌, ◌++◌, ℕ, List, [], ◌∷◌, length, slice_get, Option, Some, None, Bool, true, false, refl, ap, sym, ◌∙◌, subst, true≢false, option_map}
+use Rattle.std.proofs.Common.{◌≡◌, ◌<◌, ℕ, [], ◌∷◌, length, slice_get, Option, Some, None, true, false, refl, ap, sym, ◌∙◌, subst, true≢false, option_map}
 use Rattle.std.specs.Prelude.{All, IsSomeAnd}
 use Rattle.std.proofs.lemmas.Option.{slice_get-map, slice_get_within}
-use Rattle.std.proofs.lemmas.List.Elements.{All-head, All-weaker, All-cons, All-nil}
+use Rattle.std.proofs.lemmas.List.Elements.{All-head}
 use Rattle.mb_base.specs.declared.value.ObjId.{ObjId}
 use Rattle.mb_base.specs.declared.value.Side.{Side}
-use Rattle.mb_base.specs.declared.value.Value.{Value}
-use Rattle.mb_desc.specs.View.{View}
 use Rattle.mb_world.specs.declared.cell.Cell.{Cell}
 use Rattle.mb_world.specs.declared.cell.CellKind.{CellKind}
 use Rattle.mb_world.specs.declared.cell.CellKind.TheVariants as kind
 use Rattle.mb_world.specs.declared.cell.CellKind.TheVariants.{BuiltIn, Proxy, Membrane}
 use Rattle.mb_world.specs.declared.cell.Shape.{Shape}
-use Rattle.mb_world.specs.Value.{Val}
-use Rattle.mb_world.specs.Key.{PropertyKey}
 use Rattle.mb_world.specs.Graph as graph
 use Rattle.mb_world.specs.Graph.{Graph, Thing, Kind}
 use Rattle.mb_world.specs.Objects.{thing_at, is_proxy_kind, shape_of_kind}
-use Rattle.mb_world.specs.View.{ViewOf, Shown, view_if, view_by_kind, owner_or}
+use Rattle.mb_world.specs.View.{ViewOf, Shown, view_if, view_by_kind}
 use Rattle.mb_world.specs.Data.{Data, Stand, Counted, AtPlace, Before, Hidden, kind_stand, stand, stands, is_counted, is_object_cell, cell_at}
 use Rattle.mb_world.specs.Image.{Names, names_of, object_in, stood, kind_in, thing_in, object_of, object_at, owner_by}
 use Rattle.mb_world.specs.Contained.{IsOwn, IsMembrane, HasItsTwo, in_cell, in_kind, is_shadow}
-use Rattle.mb_world.specs.Formed.{FormedCell, HasItsKind, as_standard, thing_of}
+use Rattle.mb_world.specs.Formed.{FormedCell, HasItsKind, thing_of}
 use Rattle.mb_world.proofs.Grow.{All-at}
 use Rattle.mb_world.proofs.AfterCalls.{thing-at}
 use Rattle.mb_rules.specs.Seen.{graph_of}

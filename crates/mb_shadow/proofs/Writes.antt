@@ -1,38 +1,33 @@
 -- A shadow that is written.
-use Rattle.std.proofs.Common.{◌≡◌, ◌++◌, ◌<◌, ℕ, List, [], ◌∷◌, Option, Some, None, Bool, true, false, is_some, refl, ap, sym, ◌∙◌, subst, if◌then◌else◌, option_map, Result, Ok, Err}
-use Rattle.std.specs.Prelude.{All, IsSomeAnd, OnOk, OnErr, length}
-use Rattle.std.specs.List.{flat_map}
+use Rattle.std.proofs.Common.{◌≡◌, ◌<◌, List, Option, Some, None, true, false, refl, ap, sym, ◌∙◌, subst, if◌then◌else◌, option_map, Result, Ok, Err}
+use Rattle.std.specs.Prelude.{All, OnOk, OnErr, length}
 use Rattle.std.proofs.lemmas.Option.{slice_get_within}
-use Rattle.std.proofs.lemmas.List.Elements.{All-head, All-tail, All-append, All-cons, All-nil, All-weaker}
+use Rattle.std.proofs.lemmas.List.Elements.{All-weaker}
 use Rattle.mb_base.specs.declared.value.ObjId.{ObjId}
 use Rattle.mb_base.specs.declared.value.Side.{Side}
 use Rattle.mb_base.specs.declared.value.Key.{Key}
 use Rattle.mb_base.specs.declared.value.Value.{Value}
 use Rattle.mb_desc.specs.declared.descriptor.Full.{Full}
-use Rattle.mb_desc.specs.View.{View}
-use Rattle.mb_props.specs.Table.{found, insert_entry, without, same_key as own_key, HasDistinctKeys as OwnDistinct}
+use Rattle.mb_props.specs.Table.{found, same_key as own_key, HasDistinctKeys as OwnDistinct}
 use Rattle.mb_view.specs.Views.{property_of}
 use Rattle.mb_world.specs.declared.cell.Cell.{Cell}
-use Rattle.mb_world.specs.declared.cell.CellKind.{CellKind}
-use Rattle.mb_world.specs.declared.cell.CellKind.TheVariants.{Shadow}
 use Rattle.mb_world.specs.Value.{Val}
 use Rattle.mb_world.specs.Key.{PropertyKey, same_key}
 use Rattle.mb_world.specs.Data.{Data, cell_at, change_cell, change_if, set_cell, put_in, remove_in, with_proto, closed}
-use Rattle.mb_world.specs.Ids.{KeyIn, ValueIn, FullIn, PropertyIn, CellIn}
+use Rattle.mb_world.specs.Ids.{KeyIn, CellIn}
 use Rattle.mb_world.specs.Image.{Names, names_of, Resolve, key_in, full_in}
-use Rattle.mb_world.specs.Contained.{IsOwn, in_cell, in_kind, in_value, in_full, in_option, in_pair, is_shadow}
-use Rattle.mb_world.specs.Formed.{FormedCell, HasItsCallables, IsNullOrObject, InRange, IsArray, HasItsSlots, HasItsKind, full_values, pair_values, kind_values, cell_values}
+use Rattle.mb_world.specs.Contained.{IsOwn, in_full, is_shadow}
+use Rattle.mb_world.specs.Formed.{FormedCell, HasItsCallables, IsNullOrObject, InRange, full_values}
 use Rattle.mb_world.proofs.Grow.{All-at}
 use Rattle.mb_world.proofs.Worlds.{All-insert, All-without, CellIn-put, CellIn-remove}
 use Rattle.mb_maps.specs.Crossing.{halted}
-use Rattle.mb_maps.proofs.Lists.{some-get, some-is, All-left, All-right}
+use Rattle.mb_maps.proofs.Lists.{some-get, some-is}
 use Rattle.mb_shadow.specs.Seeing.{CanSee, IsPropertyOf, home_at, cell_view}
 use Rattle.mb_shadow.specs.Following.{Followed, KeepsShadow}
 use Rattle.mb_shadow.specs.machine.Sights.{IsShadow, IsValueOf, held_in, held_at, flagged, flags_at, Held}
-use Rattle.mb_shadow.proofs.Parts.{all-flat, all-parts}
 use Rattle.mb_shadow.proofs.Simple.{shadow-simple, own-all, formed-all}
 use Rattle.mb_shadow.proofs.Steps.{followed-same, followed-then, followed-set, followed-halted}
-use Rattle.mb_shadow.proofs.Setting.{set-there, set-other}
+use Rattle.mb_shadow.proofs.Setting.{set-there}
 use Rattle.mb_shadow.proofs.Holds.{held-set, flags-set, names-set, view-put, view-removed, view-absent}
 use Rattle.mb_shadow.proofs.Owned.{each-of, proto-of}
 

@@ -24,8 +24,8 @@ PartIn d part.Whole = Unit {0}
 
 -- ---- the shadow
 
--- what a shadow has at a key that it followed: an extensible one what is seen, if that isn't configurable, and else what
--- it had; one that isn't extensible what is seen
+-- what a shadow has at a key that it followed: an extensible one what is seen, if that isn't configurable, and else
+-- what it had; one that isn't extensible what is seen
 abbrev pub kept : (extensible : Bool) → (seen had : Option (Full Val)) → Option (Full Val)
 kept true None had = had
 kept true (Some property) had = if is_configurable property then had else Some property

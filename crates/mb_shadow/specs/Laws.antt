@@ -27,8 +27,8 @@ use Rattle.mb_shadow.specs.Shadows.{Shadowed, Lean}
 
 -- ---- the world
 
--- In a formed world sides see through their proxies, where it isn't joined, each holds only its own and has one proxy for
--- each foreign object.
+-- In a formed world sides see through their proxies, where it isn't joined, each holds only its own and has one proxy
+-- for each foreign object.
 abbrev pub FormedCanSee : (Script → Type 0) → (List Rule → Type 0) → (Entry → Type 0) → Type 0
 FormedCanSee IsProgram AreRules IsEntry = (d : Data) → d.joined ≡ false → AreDistinct d.texts → HasItsIds d
     → FormedBy IsProgram AreRules IsEntry d → Contained d → Paired d → All (λ r. HasConstant r.kind) (graph_of d).rules

@@ -66,8 +66,8 @@ cell_view n c = record {
 abbrev pub shadow_view : Data → ObjId → Option (View PropertyKey Val)
 shadow_view d proxy = option_map (cell_view (names_of d)) (cell_at d (shadow_at d proxy))
 
--- What the home of a proxy sees through it: the object behind as the policy shows it. Where that is a script-made Proxy,
--- its owner's view of the target, and nothing once the target is gone.
+-- What the home of a proxy sees through it: the object behind as the policy shows it. Where that is a script-made
+-- Proxy, its owner's view of the target, and nothing once the target is gone.
 abbrev pub view_through : Data → ObjId → Option (View PropertyKey Val)
 view_through d proxy = ViewOf (graph_of d) (home_at d proxy).0 (object_in (names_of d) proxy)
 

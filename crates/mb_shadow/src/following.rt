@@ -20,8 +20,8 @@ use mb_desc::Full;
 use mb_rules::shown;
 use mb_world::World;
 
-/// The shadow of a proxy follows a part of what its home sees through the proxy. Where the target of a script-made Proxy
-/// is gone, nothing changes. After `NoMemory` the world is halted, and the shadow may have followed in part.
+/// The shadow of a proxy follows a part of what its home sees through the proxy. Where the target of a script-made
+/// Proxy is gone, nothing changes. After `NoMemory` the world is halted, and the shadow may have followed in part.
 pub fn follow(w: &mut World, proxy: ObjId, part: Part) -> Result<(), NoMemory>
     requires proxy { IsProxy (cell_at w.old proxy) }
     requires part { PartIn w.old part }

@@ -1,4 +1,4 @@
-use Rattle.mb_shadow.proofs.Writes.{Closes, close-done}
+use Rattle.mb_shadow.proofs.Writes.{close-done}
 use Rattle.mb_shadow.proofs.following.close.Goals as goal
 
 pub returns-clause-closed : goal.returns-clause-closed

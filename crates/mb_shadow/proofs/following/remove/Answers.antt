@@ -1,4 +1,4 @@
-use Rattle.std.proofs.Common.{◌≡◌, Option, Some, None, Bool, true, false, is_some, sym, ◌∙◌, true≢false, refl}
+use Rattle.std.proofs.Common.{◌≡◌, Option, Some, None, false, is_some, sym, ◌∙◌, true≢false, refl}
 use Rattle.mb_shadow.proofs.Writes.{remove-done, absent-done}
 use Rattle.mb_shadow.proofs.Steps.{followed-same}
 use Rattle.mb_shadow.proofs.following.remove.Goals as goal

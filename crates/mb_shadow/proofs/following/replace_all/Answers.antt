@@ -1,13 +1,12 @@
-use Rattle.std.proofs.Common.{◌≡◌, ◌∙◌, ap, sym, subst, map}
+use Rattle.std.proofs.Common.{◌≡◌, ◌∙◌, ap, subst, map}
 use Rattle.mb_world.specs.Data.{Data}
-use Rattle.mb_world.specs.Image.{names_of, key_in, object_at}
+use Rattle.mb_world.specs.Image.{names_of, key_in}
 use Rattle.mb_maps.specs.Crossing.{halted}
 use Rattle.mb_shadow.specs.Following.{Followed}
-use Rattle.mb_shadow.specs.machine.Sights.{IsSight, view_of, Replaced, ReplacedAll}
-use Rattle.mb_shadow.specs.Seeing.{CanSee}
+use Rattle.mb_shadow.specs.machine.Sights.{Replaced, ReplacedAll}
 use Rattle.mb_shadow.proofs.Steps.{halted-done, followed-then}
 use Rattle.mb_shadow.proofs.Stable.{shadow-in}
-use Rattle.mb_shadow.proofs.Replacing.{on-ok, ReadAndReplaced, all-done, read-own, read-seen, read-within}
+use Rattle.mb_shadow.proofs.Replacing.{on-ok, all-done, read-own, read-seen, read-within}
 use Rattle.mb_shadow.proofs.following.replace_all.Goals as goal
 
 pub returns-in_err-own-clause-stays : goal.returns-in_err-own-clause-stays

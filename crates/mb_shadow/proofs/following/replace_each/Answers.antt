@@ -1,7 +1,7 @@
 use Rattle.mb_world.proofs.Grow.{KeyIn-grows}
 use Rattle.mb_shadow.proofs.Steps.{followed-then}
 use Rattle.mb_shadow.proofs.Stable.{shadow-in, sight-stays}
-use Rattle.mb_shadow.proofs.Replacing.{AreReplaced, are-replaced-none, are-replaced-next, are-replaced-all}
+use Rattle.mb_shadow.proofs.Replacing.{are-replaced-none, are-replaced-next, are-replaced-all}
 use Rattle.mb_shadow.proofs.following.replace_each.Goals as goal
 
 pub loop-key-init : goal.loop-key-init

@@ -1,6 +1,5 @@
-use Rattle.std.proofs.Common.{◌≡◌, ◌∙◌, List, ap, sym, subst}
-use Rattle.std.specs.Prelude.{All, IfSome}
-use Rattle.mb_base.specs.declared.value.Key.{Key}
+use Rattle.std.proofs.Common.{◌∙◌, ap, sym, subst}
+use Rattle.std.specs.Prelude.{All}
 use Rattle.mb_world.specs.Ids.{KeyIn}
 use Rattle.mb_shadow.proofs.Listed.{lists-none, lists-next, lists-left, lists-done}
 use Rattle.mb_shadow.proofs.seeing.keys_seen.Goals as goal

@@ -1,4 +1,4 @@
-use Rattle.std.proofs.Common.{Some, None, ap, sym, ◌∙◌}
+use Rattle.std.proofs.Common.{ap, sym, ◌∙◌}
 use Rattle.std.specs.Option.{option_and_then}
 use Rattle.mb_shadow.specs.machine.Sights.{view_of}
 use Rattle.mb_shadow.proofs.Through.{home-as, shadow-as, plain-seen-as, plain-sight-as, gone-seen-as, target-in-as, target-seen-as, target-sight-as}
