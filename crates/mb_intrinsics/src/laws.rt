@@ -50,8 +50,8 @@ pub fn a_furnished_world_is_ready()
     ensures ready { (d d' : Data) (n : ℕ) → IsUntouched d n → IsFurnished d n d' → HasItsIds d' → IsReady d' }
 {}
 
-/// Where the first scope of a side is made the world stays ready, and its image has that scope more; where `desk` stands
-/// for the object 0 it has the bindings of the first graph.
+/// Where the first scope of a side is made the world stays ready, and its image has that scope more; where `desk`
+/// stands for the object 0 it has the bindings of the first graph.
 pub fn names_are_bound_in_a_ready_world()
     ensures changed { (d : Data) (side : Side) (desk : Value) → IsReady d → side.0 < d.sides →
         MayHold d side (HeldValue desk) → Changed side d (with_first_scope d side desk) }
