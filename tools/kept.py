@@ -20,7 +20,8 @@ WORDS = """give is_value truth yes_or_no ends throw pass outcome answer again pa
 make_symbol fail type_error range_error reference_error or_type_error unless_type_error log""".split()
 # the modules with what is written by hand
 BY_HAND = {
-    "Words": "add_scope with_job giving",
+    "Words": "add_scope with_job",
+    "Naming": "initialize write_value write_bound write_name",
     "Made": "make_constructor make_function fromdesc proxy_create",
     "Defined": "settled stored_in store_element define_on prop_defined must_define freeze_found flag_row revoke_proxy",
     "Methods": """prototype_set walk_from walk_at walk_row walk_unless ordinary_set_prototype ordinary_delete ordinary ruled method
@@ -188,10 +189,7 @@ class Clause:
         return text, " ".join(["keeps-" + head, "kept"] + arguments)
 
     def change(self, text):
-        job = re.match(r"with_job (\S+) \(CallJob (\S+)\)$", text)
-        if job:
-            return "keeps-with_job kept %s %s" % job.groups()
-        return "keeps-giving kept (λ g. %s) %s" % re.match(r"λ g\. giving (\(.*\)) (\S+) g$", text).groups()
+        return "keeps-with_job kept %s %s" % re.match(r"with_job (\S+) \(CallJob (\S+)\)$", text).groups()
 
     def with_proofs(self, definition, arguments):
         """Behind each argument that is a part of a row its proof."""

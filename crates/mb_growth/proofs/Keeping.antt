@@ -87,7 +87,7 @@ keeping = record {
       (moved-aims (Unit {0}) g o t u at by p.0.targets) (ap entries (with_thing-log g o u));
   symbols = λ f g ds p.
       goes-step f g (record g { symbols = ds }) p (p.0.formed, stays-later g) refl (p.0.targets, stays-same g) refl;
-  scopes = λ f g ss p.
+  scopes = λ f g ss last p.
       goes-step f g (record g { scopes = ss }) p (p.0.formed, stays-later g) refl (p.0.targets, stays-same g) refl;
   log = λ f g i none p.
       goes-step f g (record g { log = g.log ++ (i ∷ []) }) p (p.0.formed, stays-later g) refl

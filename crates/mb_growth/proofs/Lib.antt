@@ -9,6 +9,7 @@ pub mod Runs
 pub mod Turns
 pub mod Throughout
 pub mod Targets
+pub mod Names
 pub mod Seen
 pub mod Ends
 pub mod There

@@ -198,7 +198,7 @@ answering p k m = record {
   made = λ f g t new h. (growing.made f g t new h.0, h.1);
   moved = λ f g o t u at by h. (growing.moved f g o t u at by h.0, with_thing-rules g o u ∙ h.1);
   symbols = λ f g ds h. h;
-  scopes = λ f g ss h. h;
+  scopes = λ f g ss last h. h;
   log = λ f g i none h. h;
   job = λ f g s v h. h;
 }
@@ -216,7 +216,7 @@ reaching = record {
   made = λ f g t new h. (growing.made f g t new h.0, h.1);
   moved = λ f g o t u at by h. (growing.moved f g o t u at by h.0, with_thing-rules g o u ∙ h.1);
   symbols = λ f g ds h. h;
-  scopes = λ f g ss h. h;
+  scopes = λ f g ss last h. h;
   log = λ f g i none h. h;
   job = λ f g s v h. h;
 }

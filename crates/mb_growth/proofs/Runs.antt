@@ -71,7 +71,7 @@ growing = record {
   made = λ f g t new p. grows-on f g (with_object t g) p (one-is-made g t p.0 (made-formed g t new));
   moved = λ f g o t u at by p. grows-on f g (with_thing o u g) p (change-grows g o t u at by p.0);
   symbols = λ f g ds p. p;
-  scopes = λ f g ss p. p;
+  scopes = λ f g ss last p. p;
   log = λ f g i none p. p;
   job = λ f g s v p. p;
 }

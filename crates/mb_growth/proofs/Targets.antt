@@ -204,7 +204,7 @@ targeting = record {
   made = λ f g t new p. aims-on f g (with_object t g) p (made-aims g t new p.0);
   moved = λ f g o t u at by p. aims-on f g (with_thing o u g) p (moved-aims ⊥ g o t u at by p.0);
   symbols = λ f g ds p. p;
-  scopes = λ f g ss p. p;
+  scopes = λ f g ss last p. p;
   log = λ f g i none p. p;
   job = λ f g s v p. p;
 }

@@ -1,6 +1,7 @@
 pub mod Objects
 pub mod Later
 pub mod Targets
+pub mod Names
 pub mod Laws
 pub mod Answered
 pub mod Performed

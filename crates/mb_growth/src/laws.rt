@@ -1,6 +1,7 @@
 // The laws of single changes, and of graphs.
 ghost use Rattle.mb_growth.specs.Answered.{OrdinaryEntriesPass, ProxyEntriesPass, ProxiesPass, ChecksTell};
 ghost use Rattle.mb_growth.specs.Lawful.{TasksKeepPromises, FirstKeepsPromises, TurnsKeepPromises, LettersKeepPromises, RunsKeepPromises, RunsPass, RunsAreLawful};
+ghost use Rattle.mb_growth.specs.Names.{FirstHasGlobals, LettersKeepGlobals, RunsHaveGlobals, TasksKeepNames, TurnsKeepGlobals};
 ghost use Rattle.mb_growth.specs.Needs.{WalksMustFit, DefinitionsMustFit, ViewsMustFit};
 ghost use Rattle.mb_growth.specs.Targets.{TasksKeepTargets, FirstHasTargets, TurnsKeepTargets, LettersKeepTargets, RunsHaveTargets};
 ghost use Rattle.mb_growth.specs.Laws.{DefinitionsMove, ElementsMove, DeletionsMove, PrototypesMove, ClosingMoves, StaysLater, GoesOnLater, OneMoves, OneIsMade, SeesByRules, EachSideSees, TasksEvolve, SidesSeeTasksEvolve, FirstIsFormed, TurnsEvolve, LettersEvolve, RunsEvolve};
@@ -51,6 +52,16 @@ pub fn targets_are_no_proxies()
     ensures turns { TurnsKeepTargets }
     ensures letters { LettersKeepTargets }
     ensures whole { RunsHaveTargets }
+{}
+
+/// Each scope stays where it is, with its names, and what is given of a fixed name stays. So the first scopes bind the
+/// built-in names and `desk` throughout every run.
+pub fn names_last()
+    ensures tasks { TasksKeepNames }
+    ensures first { FirstHasGlobals }
+    ensures turns { TurnsKeepGlobals }
+    ensures letters { LettersKeepGlobals }
+    ensures whole { RunsHaveGlobals }
 {}
 
 /// What a method of an object that is no script-made Proxy answers passes the checks of a Proxy's trap against what the

@@ -1,4 +1,5 @@
 pub mod Changes
+pub mod Lasting
 pub mod Words
 pub mod Made
 pub mod Defined
@@ -18,6 +19,7 @@ pub mod BuiltInsObjectMembers
 pub mod BuiltInsProxyMaking
 pub mod BuiltInsReflectMembers
 pub mod Nodes
+pub mod Naming
 pub mod NodesAssignments
 pub mod NodesBinaryOperators
 pub mod NodesEvaluation

@@ -16,6 +16,7 @@ use Rattle.mb_model.specs.Nodes.Assignments.{assign_row, compound_row, update_ro
 use Rattle.mb_model.specs.Nodes.Invocations.{call_row, constructor_got, or_got, and_got, sequence}
 use Rattle.mb_model.specs.Nodes.Functions.{body}
 pub mod Scopes
+pub mod Lasting
 pub mod Evaluation
 pub mod Statements
 pub mod Literals

@@ -5,14 +5,15 @@ use Rattle.std.proofs.lemmas.List.Elements.{All-head, All-tail}
 use Rattle.std.proofs.lemmas.List.{length-map, map-set}
 use Rattle.std.proofs.lemmas.Option.{slice_get-get_or, slice_get-map}
 use Rattle.std.specs.List.{position_or_len}
-use Rattle.std.specs.Prelude.{All, position}
+use Rattle.std.specs.Prelude.{All, is_some, position, if◌then◌else◌}
 use Rattle.mb_base.specs.declared.value.ScopeId.{ScopeId}
 use Rattle.mb_base.specs.declared.value.StrId.{StrId}
 use Rattle.mb_base.specs.declared.value.Value.{Value}
 use Rattle.mb_frames.proofs.Steps.{Grew-same}
 use Rattle.mb_frames.specs.Going.{WentOn}
-use Rattle.mb_model.specs.Nodes.Scopes.{bind_with, giving, initialize, or_above, own_place, scopes_with}
+use Rattle.mb_model.specs.Nodes.Scopes.{bind_with, binding_at, binding_in as binding_in_scope, giving, initialize, is_given, or_above, own_place, scopes_with, unless_given}
 use Rattle.mb_model.specs.Task.{Answer, Nothing}
+use Rattle.mb_parts.specs.Scopes.{is_bound}
 use Rattle.mb_text.proofs.WithText.{one_place}
 use Rattle.mb_text.specs.Texts.{AreDistinct, text_at}
 use Rattle.mb_world.proofs.AfterCalls.{of-changed-scope}
@@ -143,16 +144,51 @@ given-image d id s place x log e =
     } in g) (sym (given-in (names_of d) place x s.names))
     ∙ sym ((of-changed-scope d id s (world-giving place x) e).image log)
 
+-- whether it has its value
+bound-there : (n : Names) (o : Option Bound) → is_given (option_map (binding_in n) o) ≡ is_bound o
+bound-there n None = refl
+bound-there n (Some b) = by b.value
+  where
+    by : (v : Option Value) → is_some (option_map (Resolve n) v) ≡ is_some v
+    by None = refl
+    by (Some v) = refl
+
+given-there : (d : Data) (id : ScopeId) (s : Scope) (place : ℕ) (log : List Item) → scope_at d id ≡ Some s
+    → is_given (binding_at (Image d log) (Some (id.0, place))) ≡ is_bound (slice_get s.names place)
+given-there d id s place log e =
+    ap (λ (o : Option graph.Scope). is_given (binding_in_scope place o)) (scope-there d id s log e)
+    ∙ ap is_given (slice_get-map (binding_in (names_of d)) s.names place)
+    ∙ bound-there (names_of d) (slice_get s.names place)
+
+-- read anew
+pub bound-anew : (d : Data) (id : ScopeId) (s t : Scope) (place : ℕ) (o : Option Bound) (b bound : Bool) → scope_at d id ≡ Some s
+    → scope_at d id ≡ Some t → o ≡ slice_get t.names place → b ≡ is_bound o → b ≡ bound
+    → is_bound (slice_get s.names place) ≡ bound
+bound-anew d id s t place o b bound e f p q r =
+    let both : Some s ≡ Some t = sym e ∙ f in
+    let same : s ≡ t = cc in
+    ap (λ (x : Scope). is_bound (slice_get x.names place)) same ∙ ap is_bound (sym p) ∙ sym q ∙ r
+
+-- the place to give it at
+place-open : (d : Data) (id : ScopeId) (s : Scope) (x : StrId) (place : ℕ) (bound : Bool) (log : List Item) → AreDistinct d.texts
+    → TextIn d x → All (BoundIn d) s.names → scope_at d id ≡ Some s → position (has_name x) s.names ≡ Some place
+    → is_bound (slice_get s.names place) ≡ bound
+    → unless_given (Image d log) (own_place id.0 (text_in (names_of d) x) (slice_get (Image d log).scopes id.0))
+    ≡ (if bound then None else Some (id.0, place))
+place-open d id s x place bound log a h b e p q =
+    ap (unless_given (Image d log)) (place-there d id s x log a h b e ∙ ap (λ (o : Option ℕ). or_above id.0 o None (λ p. None)) p)
+    ∙ ap (λ (c : Bool). if c then None else Some (id.0, place)) (given-there d id s place log e ∙ q)
+
 pub name-given : (d d' : Data) (id : ScopeId) (s : Scope) (x : StrId) (y : Value) (place : ℕ) → AreDistinct d.texts
     → TextIn d x → All (BoundIn d) s.names → scope_at d id ≡ Some s → position (has_name x) s.names ≡ Some place
-    → d' ≡ change_scope d id (world-giving place y)
+    → is_bound (slice_get s.names place) ≡ false → d' ≡ change_scope d id (world-giving place y)
     → WentOn Answer d d' 0 0 (initialize id.0 (text_in (names_of d) x) (Resolve (names_of d) y)) Nothing
-name-given d d' id s x y place a h b e p m = rw m (record {
+name-given d d' id s x y place a h b e p q m = rw m (record {
   units = 0;
   paid = omega arith;
   same = λ k log.
       ap (λ (o : Option (ℕ × ℕ)). k Nothing (giving o (Resolve (names_of d) y) (Image d log)))
-      (place-there d id s x log a h b e ∙ ap (λ (o : Option ℕ). or_above id.0 o None (λ p. None)) p)
+      (place-open d id s x place false log a h b e p q)
       ∙ ap (k Nothing) (given-image d id s place y log e);
   trace = rw e refl;
   grew = record {
@@ -163,6 +199,21 @@ name-given d d' id s x y place a h b e p m = rw m (record {
   };
 })
 
+-- it has its value already
+pub name-bound : (d : Data) (id : ScopeId) (s : Scope) (x : StrId) (y : Value) (place : ℕ) → AreDistinct d.texts
+    → TextIn d x → All (BoundIn d) s.names → scope_at d id ≡ Some s → position (has_name x) s.names ≡ Some place
+    → is_bound (slice_get s.names place) ≡ true
+    → WentOn Answer d d 0 0 (initialize id.0 (text_in (names_of d) x) (Resolve (names_of d) y)) Nothing
+name-bound d id s x y place a h b e p q = record {
+  units = 0;
+  paid = omega arith;
+  same = λ k log.
+      ap (λ (o : Option (ℕ × ℕ)). k Nothing (giving o (Resolve (names_of d) y) (Image d log)))
+      (place-open d id s x place true log a h b e p q);
+  trace = refl;
+  grew = Grew-same d;
+}
+
 pub name-missing : (d : Data) (id : ScopeId) (s : Scope) (x : StrId) (y : Value) → AreDistinct d.texts → TextIn d x
     → All (BoundIn d) s.names → scope_at d id ≡ Some s → position (has_name x) s.names ≡ None
     → WentOn Answer d d 0 0 (initialize id.0 (text_in (names_of d) x) (Resolve (names_of d) y)) Nothing
@@ -170,7 +221,7 @@ name-missing d id s x y a h b e p = record {
   units = 0;
   paid = omega arith;
   same = λ k log.
-      ap (λ (o : Option (ℕ × ℕ)). k Nothing (giving o (Resolve (names_of d) y) (Image d log)))
+      ap (λ (o : Option (ℕ × ℕ)). k Nothing (giving (unless_given (Image d log) o) (Resolve (names_of d) y) (Image d log)))
       (place-there d id s x log a h b e ∙ ap (λ (o : Option ℕ). or_above id.0 o None (λ p. None)) p);
   trace = refl;
   grew = Grew-same d;

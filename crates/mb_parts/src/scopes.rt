@@ -5,7 +5,7 @@ ghost use Rattle.mb_frames.specs.Going.{Changes, Charged};
 ghost use Rattle.mb_frames.specs.Held.{HeldScope, HeldText, HeldValue};
 ghost use Rattle.mb_frames.specs.Keeping.{KeepsOn, none_held};
 ghost use Rattle.mb_model.specs.Nodes.Scopes.{initialize};
-ghost use Rattle.mb_parts.specs.Scopes.{unbound};
+ghost use Rattle.mb_parts.specs.Scopes.{is_bound, unbound};
 ghost use Rattle.mb_world.specs.Ids.{HasItsIds, ScopeIn, TextIn, ValueIn};
 ghost use Rattle.mb_world.specs.Image.{Resolve, names_of, text_in};
 
@@ -36,7 +36,7 @@ pub fn unbound_names(
 }
 
 /// Gives a name that the scope itself binds its value (InitializeBinding, ECMA-262, 9.1.1.1.4); where the scope doesn't
-/// bind it, nothing changes.
+/// bind it, or it has its value already, nothing changes.
 pub fn initialize(w: &mut World, scope: ScopeId, name: StrId, x: Value) -> Result<(), Halt>
     requires scope { ScopeIn w.old scope }
     requires name { TextIn w.old name }
@@ -55,10 +55,23 @@ pub fn initialize(w: &mut World, scope: ScopeId, name: StrId, x: Value) -> Resul
             if place > u32::MAX as usize {
                 return Err(Halt::NoMemory);
             }
+            if is_bound(w.scope(scope).names.at(place)) {
+                return Ok(());
+            }
             w.give(scope, place as u32, x);
             let _after = w.texts();
             Ok(())
         }
         None => Ok(()),
+    }
+}
+
+// Whether a name has its value.
+fn is_bound(bound: Option<Bound>) -> bool
+    ensures { result ≡ is_bound bound }
+{
+    match bound {
+        Some(bound) => bound.value.is_some(),
+        None => false,
     }
 }

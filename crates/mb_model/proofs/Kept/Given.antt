@@ -22,7 +22,7 @@ given_by = record {
   made = λ f g t new k. k;
   moved = λ f g o t u at by k. beside-objects (KeepsGiven f) g o u (λ ts. k) k;
   symbols = λ f g ds k. k;
-  scopes = λ f g ss k. k;
+  scopes = λ f g ss last k. k;
   log = λ f g i none k. k;
   job = λ f g s v k. (k.0, k.1, k.2, length-set g.queues s _ ∙ k.3);
 }

@@ -9,7 +9,8 @@ use Rattle.mb_model.specs.Nodes.Scopes.{form_at, bound_names, enter_names, initi
 use Rattle.mb_model.specs.Nodes.Evaluation.{Context, task, eval}
 use Rattle.mb_model.specs.Nodes.Functions.{bind_params, this_of, body_next, body, body_or_value, entered_names, enter_parts, enter_form, enter_kind, enter_thing, enter_row}
 use Rattle.mb_model.proofs.Kept.Words.{Kept, Goes, keeps->>=, keeps-ends, keeps-give, keeps-is_value, keeps-look, keeps-outcome}
-use Rattle.mb_model.proofs.Kept.NodesScopes.{keeps-declare, keeps-enter_names, keeps-initialize}
+use Rattle.mb_model.proofs.Kept.NodesScopes.{keeps-declare, keeps-enter_names}
+use Rattle.mb_model.proofs.Kept.Naming.{keeps-initialize}
 use Rattle.mb_model.proofs.Kept.NodesEvaluation.{keeps-eval}
 use Rattle.mb_model.proofs.Kept.Defined.{keeps-revoke_proxy}
 

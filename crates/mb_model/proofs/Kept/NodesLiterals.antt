@@ -14,7 +14,7 @@ use Rattle.std.proofs.Common.{refl}
 use Rattle.mb_model.proofs.Kept.Words.{Kept, Goes, keeps->>=, keeps-add_scope, keeps-give, keeps-if, keeps-is_value, keeps-look, keeps-pay, keeps-range_error}
 use Rattle.mb_model.proofs.Kept.Made.{keeps-make_function}
 use Rattle.mb_model.proofs.Kept.NodesEvaluation.{keeps-eval}
-use Rattle.mb_model.proofs.Kept.NodesScopes.{keeps-initialize}
+use Rattle.mb_model.proofs.Kept.Naming.{keeps-initialize}
 use Rattle.mb_model.proofs.Kept.Defined.{keeps-prop_defined}
 use Rattle.mb_model.proofs.Kept.OperationsConversions.{keeps-to_key}
 

@@ -9,7 +9,8 @@ use Rattle.mb_model.specs.Nodes.References.{Reference, ToName, ToPlace, layers, 
 use Rattle.mb_model.proofs.Kept.Words.{Kept, Goes, keeps->>=, keeps-give, keeps-is_value, keeps-look, keeps-pay_each, keeps-type_error}
 use Rattle.mb_model.proofs.Kept.NodesEvaluation.{keeps-eval}
 use Rattle.mb_model.proofs.Kept.OperationsCalls.{keeps-getv, keeps-putv}
-use Rattle.mb_model.proofs.Kept.NodesScopes.{keeps-read_name, keeps-write_name}
+use Rattle.mb_model.proofs.Kept.NodesScopes.{keeps-read_name}
+use Rattle.mb_model.proofs.Kept.Naming.{keeps-write_name}
 use Rattle.mb_model.proofs.Kept.OperationsConversions.{keeps-to_key}
 
 -- what the parts of these rows keep (written by tools/kept.py)

@@ -1,12 +1,13 @@
-use Rattle.std.specs.Prelude.{ℕ, List, [], ◌∷◌, length, map, Bool, true, false, Option, Some, None, slice_get}
+use Rattle.std.specs.Prelude.{ℕ, List, [], ◌∷◌, length, map, true, Option, Some, None, slice_get}
 use Rattle.mb_world.specs.Value.{Val}
 use Rattle.mb_world.specs.Form.{Form, FunctionDeclForm}
 use Rattle.mb_world.specs.Graph.{Binding, ScopeName}
 use Rattle.mb_model.specs.Task.{Nothing}
 use Rattle.mb_model.specs.Writing.{◌>>=◌, pay_each, look}
 use Rattle.mb_model.specs.Operations.Makings.{make_function}
-use Rattle.mb_model.specs.Nodes.Scopes.{form_at, bound_names, binding, scope, add_scope, enter_names, enter_scope, copy_of, copy_scope, resolve, find_binding, own_place, initialize, value_bound, bound_value, read_name, write_value, write_bound, write_name, code, declare_one, declare}
-use Rattle.mb_model.proofs.Kept.Words.{Kept, Goes, keeps->>=, keeps-add_scope, keeps-give, keeps-giving, keeps-look, keeps-pay_each, keeps-reference_error, keeps-type_error}
+use Rattle.mb_model.specs.Nodes.Scopes.{form_at, bound_names, binding, scope, add_scope, enter_names, enter_scope, copy_of, copy_scope, find_binding, initialize, value_bound, bound_value, read_name, code, declare_one, declare}
+use Rattle.mb_model.proofs.Kept.Words.{Kept, Goes, keeps->>=, keeps-add_scope, keeps-give, keeps-look, keeps-pay_each, keeps-reference_error}
+use Rattle.mb_model.proofs.Kept.Naming.{keeps-initialize}
 use Rattle.mb_model.proofs.Kept.Made.{keeps-make_function}
 
 -- what the parts of these rows keep (written by tools/kept.py)
@@ -26,9 +27,6 @@ keeps-copy_scope kept sc = keeps->>= kept (look (λ g. copy_of (slice_get g.scop
     keeps->>= kept (pay_each old.bindings) (λ _. add_scope old) (keeps-pay_each kept old.bindings) (λ _.
     keeps-add_scope kept old))
 
-pub keeps-initialize : (kept : Kept) (x0 : ℕ) (x1 : List ℕ) (x2 : Val) → Goes kept (initialize x0 x1 x2)
-keeps-initialize kept sc x v = keeps-giving kept (λ g. (own_place sc x (slice_get g.scopes sc))) v
-
 pub keeps-value_bound : (kept : Kept) (x0 : ℕ) (x1 : Option Val) → Goes kept (value_bound x0 x1)
 keeps-value_bound kept s None = keeps-reference_error kept s
 keeps-value_bound kept s (Some v) = keeps-give kept v
@@ -40,21 +38,6 @@ keeps-bound_value kept s (Some b) = keeps-value_bound kept s b.value
 pub keeps-read_name : (kept : Kept) (x0 : ℕ) (x1 : ℕ) (x2 : List ℕ) → Goes kept (read_name x0 x1 x2)
 keeps-read_name kept s sc x = keeps->>= kept (look (λ g. find_binding g sc x)) (λ b. bound_value s b) (keeps-look
     kept (λ g. find_binding g sc x)) (λ b. keeps-bound_value kept s b)
-
-pub keeps-write_value : (kept : Kept) (x0 : ℕ) (x1 : ℕ) (x2 : List ℕ) (x3 : Val) (x4 : Bool) (x5 : Option Val) →
-    Goes kept (write_value x0 x1 x2 x3 x4 x5)
-keeps-write_value kept s sc x v fixed None = keeps-reference_error kept s
-keeps-write_value kept s sc x v true (Some w) = keeps-type_error kept s
-keeps-write_value kept s sc x v false (Some w) = keeps-giving kept (λ g. (resolve g sc x)) v
-
-pub keeps-write_bound : (kept : Kept) (x0 : ℕ) (x1 : ℕ) (x2 : List ℕ) (x3 : Val) (x4 : Option Binding) → Goes kept
-    (write_bound x0 x1 x2 x3 x4)
-keeps-write_bound kept s sc x v None = keeps-reference_error kept s
-keeps-write_bound kept s sc x v (Some b) = keeps-write_value kept s sc x v b.fixed b.value
-
-pub keeps-write_name : (kept : Kept) (x0 : ℕ) (x1 : ℕ) (x2 : List ℕ) (x3 : Val) → Goes kept (write_name x0 x1 x2 x3)
-keeps-write_name kept s sc x v = keeps->>= kept (look (λ g. find_binding g sc x)) (λ b. write_bound s sc x v b)
-    (keeps-look kept (λ g. find_binding g sc x)) (λ b. keeps-write_bound kept s sc x v b)
 
 pub keeps-declare_one : (kept : Kept) (x0 : ℕ) (x1 : ℕ) (x2 : ℕ) (x3 : Option Form) → Goes kept (declare_one x0 x1
     x2 x3)

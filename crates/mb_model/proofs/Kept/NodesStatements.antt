@@ -8,7 +8,8 @@ use Rattle.mb_model.specs.Nodes.Scopes.{form_at, enter_scope, initialize, declar
 use Rattle.mb_model.specs.Nodes.Evaluation.{Context, task, eval, with_scope}
 use Rattle.mb_model.specs.Nodes.Statements.{run_each, run_scoped, decl_of, give_each, expr_done, body_ended, while_tested, do_tested, do_test, for_lets, copy_if, for_again, for_last, for_next, for_body, for_turn, for_begun, for_first, enter_if, for_row, loop_form, loop_row, finally_ended, finally, catch_scope, catch, tried, return_row}
 use Rattle.mb_model.proofs.Kept.Words.{Kept, Fitted, Goes, keeps->>=, keeps-again, keeps-answer, keeps-ends, keeps-give, keeps-look, keeps-outcome, keeps-pass}
-use Rattle.mb_model.proofs.Kept.NodesScopes.{keeps-copy_scope, keeps-declare, keeps-enter_scope, keeps-initialize}
+use Rattle.mb_model.proofs.Kept.NodesScopes.{keeps-copy_scope, keeps-declare, keeps-enter_scope}
+use Rattle.mb_model.proofs.Kept.Naming.{keeps-initialize}
 use Rattle.mb_model.proofs.Kept.NodesEvaluation.{keeps-eval}
 
 -- what the parts of these rows keep (written by tools/kept.py)

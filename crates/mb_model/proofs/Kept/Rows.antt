@@ -1,7 +1,7 @@
 use Rattle.std.proofs.Common.{ℕ, zero, suc, ◌-◌, Bool, true, false, nat_lt, if◌then◌else◌}
 use Rattle.mb_world.specs.Graph.{Graph, Entry}
 use Rattle.mb_world.specs.Objects.{thing_at}
-use Rattle.mb_model.specs.Engine.{Gives, Spent, Ret, Pay, Turn, Do, Again, by, and_then, charged, exec, within, given, ending}
+use Rattle.mb_model.specs.Engine.{Gives, Spent, Ret, Pay, Turn, Do, Again, by, and_then, charged, exec, within, given, means, ending}
 use Rattle.mb_model.specs.Task.{Task, Evaluate, Loop, Chain, Walk, Perform, Enter, Run, Access, Visit, Answer, Outcome, Normal}
 use Rattle.mb_model.specs.Writing.{Row, Does}
 use Rattle.mb_model.specs.Nodes.Evaluation.{Context}
@@ -37,7 +37,7 @@ abbrev pub OwesNothing : Kept → Type 0
 OwesNothing kept = (b g : Graph) (o : Outcome) → kept.to b g → kept.owed b o g
 
 -- a whole row
-whole : (kept : Kept) (g : Graph) (m : Does Answer) → OwesNothing kept → At kept g m → Along kept g g → Holds kept g (m finished g)
+pub whole : (kept : Kept) (g : Graph) (m : Does Answer) → OwesNothing kept → At kept g m → Along kept g g → Holds kept g (m finished g)
 whole kept g m owes p a = p finished g a (λ x g' q. (q, owes g g' (Normal x) q.1))
 
 pub ending-holds : (kept : Kept) (b : Graph) (noted : Outcome → Graph → Graph) (p : Row) →
@@ -87,7 +87,7 @@ noted-holds kept plain b e o g h =
     let to = plain.notes b g (e o g) h.1 in
     ((λ a x. h.0 a x, to), plain.owes b (with_entry (e o g) g) o to)
 
-row-holds : (kept : Kept) → IsPlain kept → (t : Task) (g : Graph) → Fitted kept t g → Along kept g g →
+pub row-holds : (kept : Kept) → IsPlain kept → (t : Task) (g : Graph) → Fitted kept t g → Along kept g g →
     Holds kept g (row t g)
 row-holds kept plain (Perform s m o v enters) g fit a =
     entering-holds kept g (makes_entry enters s o g) (method_noted (entries_made g) s o m) (perform_row s v o m finished g)
@@ -156,15 +156,23 @@ plain-known : (kept : Kept) → IsPlain kept → (t : Task) (b : Graph) (r : End
 plain-known kept plain t b (Gives o s f) h = (h.0, plain.knows t b s o)
 plain-known kept plain t b (Spent s f) h = h
 
-within-known : (kept : Kept) → IsPlain kept → (depth : ℕ) → DoesSo kept (within row depth)
-within-known kept plain zero t s f fit a = a
-within-known kept plain (suc depth) t s f fit a =
-    plain-known kept plain t s (exec (by (within row depth)) false (row t s) f)
-    (exec-owed kept (within row depth) (within-known kept plain depth) s false (row t s) f (row-holds kept plain t s fit a))
+-- each row does so from where its task fits
+abbrev pub RowsHold : Kept → (Task → Graph → Row) → Type 0
+RowsHold kept rows = (t : Task) (g : Graph) → Fitted kept t g → Along kept g g → Holds kept g (rows t g)
+
+within-known : (kept : Kept) → IsPlain kept → (rows : Task → Graph → Row) → RowsHold kept rows → (depth : ℕ) →
+    DoesSo kept (within rows depth)
+within-known kept plain rows hold zero t s f fit a = a
+within-known kept plain rows hold (suc depth) t s f fit a =
+    plain-known kept plain t s (exec (by (within rows depth)) false (rows t s) f)
+    (exec-owed kept (within rows depth) (within-known kept plain rows hold depth) s false (rows t s) f (hold t s fit a))
+
+known-by : (kept : Kept) → IsPlain kept → (rows : Task → Graph → Row) → RowsHold kept rows → DoesSo kept (given rows)
+unfolding given
+known-by kept plain rows hold t s f fit a = within-known kept plain rows hold (suc f) t s f fit a
 
 pub given-known : (kept : Kept) → IsPlain kept → DoesSo kept (given row)
-unfolding given
-given-known kept plain t s f fit a = within-known kept plain (suc f) t s f fit a
+given-known kept plain = known-by kept plain row (row-holds kept plain)
 
 abbrev pub EndHolds : Kept → Graph → Ends → Type 0
 EndHolds kept b (Gives o s f) = kept.to b s
@@ -183,3 +191,15 @@ pub means-holds : (kept : Kept) → IsPlain kept → (t : Task) (s : Graph) (f :
     EndHolds kept s (Means t s f)
 means-holds kept plain t s f fit h =
     end-holds kept t s (Means t s f) (charged-known kept (given row) (given-known kept plain) t s f fit (λ a x. x, h))
+
+-- the same, whichever rows tasks have
+pub given-holds-by : (kept : Kept) → IsPlain kept → (rows : Task → Graph → Row) → RowsHold kept rows → (t : Task) (s : Graph)
+    (f : ℕ) → Fitted kept t s → kept.to s s → EndHolds kept s (given rows t s f)
+given-holds-by kept plain rows hold t s f fit h =
+    end-holds kept t s (given rows t s f) (known-by kept plain rows hold t s f fit (λ a x. x, h))
+
+pub means-holds-by : (kept : Kept) → IsPlain kept → (rows : Task → Graph → Row) → RowsHold kept rows → (t : Task) (s : Graph)
+    (f : ℕ) → Fitted kept t s → kept.to s s → EndHolds kept s (means rows t s f)
+means-holds-by kept plain rows hold t s f fit h =
+    end-holds kept t s (means rows t s f)
+    (charged-known kept (given rows) (known-by kept plain rows hold) t s f fit (λ a x. x, h))

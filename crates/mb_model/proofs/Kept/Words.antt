@@ -12,8 +12,10 @@ use Rattle.mb_model.specs.Fitting.{Fits, SeesItself}
 use Rattle.mb_model.specs.Writing.{Row, Does, ◌>>=◌, give, is_value, truth, yes_or_no, ends, throw, pass, outcome, answer, again, pay, turn, pay_each, look, change, value_in, flag_in, property_in, keys_in, value, flag, property, keys, with_object, make, with_symbol, make_symbol, fail, type_error, range_error, reference_error, or_type_error, unless_type_error, log}
 use Rattle.mb_model.specs.Operations.Makings.{altered, alter}
 use Rattle.mb_model.specs.Nodes.Scopes.{add_scope, giving}
+use Rattle.mb_model.specs.Nodes.Lasting.{ScopesLast}
 use Rattle.mb_model.specs.BuiltIns.Basics.{with_job}
 use Rattle.mb_model.specs.Trace.Entries.{entry_of}
+use Rattle.mb_model.proofs.Kept.Lasting.{scopes-added}
 use Rattle.mb_model.proofs.Kept.Changes.{IsNew, NewOther, IsMade, Apart, Change, Lasts, moved-lasts, made-lasts}
 
 -- a row ends without an answer
@@ -22,7 +24,7 @@ IsAbrupt (Normal a) = ⊥
 IsAbrupt _ = Unit {0}
 
 -- a relation between an earlier graph and a later one that goes on along each change which a row can make: an object is
--- made or changes, symbols and scopes change, the log gets an item that is no entry, and a queue one more call. It may
+-- made or changes, symbols change, scopes last, the log gets an item that is no entry, and a queue one more call. It may
 -- care that tasks fit, and that each side's own view stands where an entry may be made; more may be owed where a row
 -- ends, which one that ends without an answer owes at once, and be known of how tasks end
 pub record Kept : Type 1 where
@@ -38,7 +40,7 @@ pub record Kept : Type 1 where
   pub moved : (f g : Graph) (o : Val) (t u : Thing) → thing_at g o ≡ Some t → Change cares g t u → to f g
       → to f (with_thing o u g)
   pub symbols : (f g : Graph) (ds : List (Option (List ℕ))) → to f g → to f (record g { symbols = ds })
-  pub scopes : (f g : Graph) (ss : List Scope) → to f g → to f (record g { scopes = ss })
+  pub scopes : (f g : Graph) (ss : List Scope) → ScopesLast g.scopes ss → to f g → to f (record g { scopes = ss })
   pub log : (f g : Graph) (i : Item) → entry_of i ≡ [] → to f g → to f (record g { log = g.log ++ (i ∷ []) })
   pub job : (f g : Graph) (s : ℕ) (v : Val) → to f g → to f (with_job s (CallJob v) g)
 
@@ -67,8 +69,9 @@ along-symbols : (kept : Kept) (f g : Graph) (ds : List (Option (List ℕ))) → 
     Along kept f (record g { symbols = ds })
 along-symbols kept f g ds p = (λ a x. p.0 a x, kept.symbols f g ds p.1)
 
-along-scopes : (kept : Kept) (f g : Graph) (ss : List Scope) → Along kept f g → Along kept f (record g { scopes = ss })
-along-scopes kept f g ss p = (λ a x. p.0 a x, kept.scopes f g ss p.1)
+along-scopes : (kept : Kept) (f g : Graph) (ss : List Scope) → ScopesLast g.scopes ss → Along kept f g →
+    Along kept f (record g { scopes = ss })
+along-scopes kept f g ss last p = (λ a x. p.0 a x, kept.scopes f g ss last p.1)
 
 along-job : (kept : Kept) (f g : Graph) (s : ℕ) (v : Val) → Along kept f g → Along kept f (with_job s (CallJob v) g)
 along-job kept f g s v p = (λ a x. p.0 a x, kept.job f g s v p.1)
@@ -275,24 +278,22 @@ pub at-alter : (kept : Kept) (g : Graph) (o : Val) (f : Thing → Thing) →
 at-alter kept g o f by k b p h =
     h Nothing (altered o f (thing_at g o) g) (altered-along kept g o f (thing_at g o) refl by (along-stays kept b g p))
 
-giving-along : (kept : Kept) (f g : Graph) (x : Option (ℕ × ℕ)) (v : Val) → Along kept f g → Along kept f (giving x v g)
-giving-along kept f g None v p = p
-giving-along kept f g (Some x) v p = along-scopes kept f g _ p
+giving-along : (kept : Kept) (f g : Graph) (x : Option (ℕ × ℕ)) (v : Val) → ScopesLast g.scopes (giving x v g).scopes →
+    Along kept f g → Along kept f (giving x v g)
+giving-along kept f g None v last p = p
+giving-along kept f g (Some x) v last p = along-scopes kept f g _ last p
 
-pub keeps-giving : (kept : Kept) (place : Graph → Option (ℕ × ℕ)) (v : Val) →
-    Goes kept (change (λ g. giving (place g) v g))
-keeps-giving kept place v =
-    record {
-      goes = λ g k b p h.
-          h Nothing (giving (place g) v g) (giving-along kept g g (place g) v (along-stays kept b g p));
-    }
+pub at-giving : (kept : Kept) (place : Graph → Option (ℕ × ℕ)) (v : Val) (g : Graph) →
+    ScopesLast g.scopes (giving (place g) v g).scopes → At kept g (change (λ h. giving (place h) v h))
+at-giving kept place v g last k b p h =
+    h Nothing (giving (place g) v g) (giving-along kept g g (place g) v last (along-stays kept b g p))
 
 pub keeps-add_scope : (kept : Kept) (sc : Scope) → Goes kept (add_scope sc)
 keeps-add_scope kept sc =
     record {
       goes = λ g k b p h.
           h (length g.scopes) (record g { scopes = g.scopes ++ (sc ∷ []) })
-          (along-scopes kept g g (g.scopes ++ (sc ∷ [])) (along-stays kept b g p));
+          (along-scopes kept g g (g.scopes ++ (sc ∷ [])) (scopes-added g.scopes (sc ∷ [])) (along-stays kept b g p));
     }
 
 pub keeps-with_job : (kept : Kept) (s : ℕ) (v : Val) → Goes kept (change (with_job s (CallJob v)))

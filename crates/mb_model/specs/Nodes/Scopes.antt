@@ -1,4 +1,4 @@
-use Rattle.std.specs.Prelude.{ℕ, zero, suc, List, [], ◌∷◌, ◌++◌, length, map, Bool, true, false, nat_eq, Option, Some, None, slice_get, slice_set, position}
+use Rattle.std.specs.Prelude.{ℕ, zero, suc, List, [], ◌∷◌, ◌++◌, length, map, Bool, true, false, nat_eq, Option, Some, None, slice_get, slice_set, position, is_some, if◌then◌else◌}
 use Rattle.mb_world.specs.Value.{Val, same_units}
 use Rattle.mb_world.specs.Form.{Form, FunctionDeclForm}
 use Rattle.mb_world.specs.Graph.{Graph, Scope, Binding, Program, ScopeName, Code}
@@ -114,9 +114,17 @@ abbrev pub own_place : ℕ → List ℕ → Option Scope → Option (ℕ × ℕ)
 own_place sc x None = None
 own_place sc x (Some s) = or_above sc (position (λ b. same_units b.name x) s.bindings) None (λ p. None)
 
--- InitializeBinding (ECMA-262 9.1.1.1.4)
+abbrev pub is_given : Option Binding → Bool
+is_given None = false
+is_given (Some b) = is_some b.value
+
+-- the place, if its name isn't given yet
+abbrev pub unless_given : Graph → Option (ℕ × ℕ) → Option (ℕ × ℕ)
+unless_given g p = if is_given (binding_at g p) then None else p
+
+-- InitializeBinding (ECMA-262 9.1.1.1.4), of a name that isn't given yet
 abbrev pub initialize : ℕ → List ℕ → Val → Does Answer
-initialize sc x v = change (λ g. giving (own_place sc x (slice_get g.scopes sc)) v g)
+initialize sc x v = change (λ g. giving (unless_given g (own_place sc x (slice_get g.scopes sc))) v g)
 
 abbrev pub value_bound : ℕ → Option Val → Does Val
 value_bound s None = reference_error s
