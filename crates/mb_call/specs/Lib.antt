@@ -1,0 +1,4 @@
+pub mod Arrays
+pub mod Due
+pub mod Ours
+pub mod machine

@@ -1,0 +1,11 @@
+pub mod Acting
+pub mod Descriptors
+pub mod Functions
+pub mod Keeping
+pub mod Lists
+pub mod Methods
+pub mod Noting
+pub mod Resuming
+pub mod Standing
+pub mod Throwing
+pub mod Walks
