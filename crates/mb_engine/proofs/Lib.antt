@@ -1,0 +1,17 @@
+pub mod Rows
+pub mod Stepping
+pub mod Waits
+pub mod Thrown
+pub mod Reaching
+pub mod Globals
+pub mod Jobs
+pub mod Ending
+pub mod Words
+pub mod Tops
+pub mod Lines
+pub mod Setting
+pub mod Desk
+pub mod Scopes
+pub mod Begins
+pub mod Given
+pub mod Reading

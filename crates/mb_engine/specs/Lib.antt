@@ -1,0 +1,5 @@
+pub mod Begun
+pub mod Interim
+pub mod Turns
+pub mod Driving
+pub mod machine
