@@ -1,0 +1,99 @@
+use Rattle.std.proofs.Common.{◌+◌, ◌∷◌, [], List, drop, refl}
+use Rattle.std.proofs.lemmas.Result.{err_from_is_err_and}
+use Rattle.mb_base.specs.declared.value.Key.{Key}
+use Rattle.mb_base.specs.declared.value.ObjId.{ObjId}
+use Rattle.mb_base.specs.declared.value.Side.{Side}
+use Rattle.mb_base.specs.declared.value.Value.{Value}
+use Rattle.mb_frames.specs.Resolved.{keys_of, values_in}
+use Rattle.mb_frames.specs.Sorts.{AValue}
+use Rattle.mb_frames.specs.declared.reflecting.ReflectFrame.TheVariants as r
+use Rattle.mb_frames.specs.declared.task.Method.TheVariants as m
+use Rattle.mb_model.specs.BuiltIns.ObjectMembers.{enumerable_keys, with_key}
+use Rattle.mb_model.specs.Meaning.{finished}
+use Rattle.mb_model.specs.Task.{GetOwnProperty}
+use Rattle.mb_model.specs.Writing.{◌>>=◌, Row, perform, property}
+use Rattle.mb_reflect.proofs.Doing.{asked, done-asked, halted, keeps-asked}
+use Rattle.mb_reflect.proofs.Looping.{done-no-visit, done-past, done-visit, listed-held}
+use Rattle.mb_reflect.proofs.listing.enumerate_from.Goals as goal
+use Rattle.mb_world.specs.Data.{Data}
+use Rattle.mb_world.specs.Graph.{Graph}
+use Rattle.mb_world.specs.Image.{key_in, names_of, object_in}
+use Rattle.mb_world.specs.Key.{PropertyKey}
+use Rattle.std.proofs.Common.{Ok, ℕ}
+
+module _ (home : Side) (object : ObjId) (keys : List Key) (next : ℕ) (found : List Value) (d : Data) where
+  -- the keys that are left, and those after a key
+  abbrev row : List PropertyKey → Graph → Row
+  row ks = enumerable_keys home.0 (object_in (names_of d) object) (values_in (names_of d) found) ks finished
+
+  abbrev after : Key → Graph → Row
+  after key =
+      (property (perform home.0 (GetOwnProperty (key_in (names_of d) key)) (object_in (names_of d) object))
+      >>= (λ p. enumerable_keys home.0 (object_in (names_of d) object)
+      (with_key (key_in (names_of d) key) (values_in (names_of d) found) p)
+      (drop (next + 1) (keys_of (names_of d) keys)))) finished
+
+pub array_of-requires : goal.array_of-requires
+array_of-requires c =
+    let a = c.requires.acts in
+    record { acts = record { ready = a.ready; side = a.side; holds = rw c.items.ensures (a.holds.1.1.0, tt) } }
+
+pub returns-in-None-clause-part : goal.returns-in-None-clause-part
+returns-in-None-clause-part c =
+    let d = c.args.w.now in
+    let f = c.args.fuel.now in
+    let e = rw c.items.ensures at c.array_of.ensures.part f in
+    (done-past c.args.home d c.args.keys c.args.next
+    (row c.args.home c.args.object c.args.keys c.args.next c.args.found d) c.array_of.result c.array_of.new.w f f
+    c.in-None.ensures (record { part = e; keeps = c.array_of.ensures.keeps })).part
+
+pub returns-in_err-charge-in-Some-clause-part : goal.returns-in_err-charge-in-Some-clause-part
+returns-in_err-charge-in-Some-clause-part c =
+    let d = c.args.w.now in
+    let home = c.args.home in
+    let key = c.in-Some.key in
+    let p = err_from_is_err_and c.from_residual.result c.from_residual.ensures.1 in
+    rw (p.1, p.2, c.in_err-charge-in-Some.ensures.kept)
+    (done-no-visit home d c.args.keys c.args.next (row home c.args.object c.args.keys c.args.next c.args.found d) key
+    c.in-Some.ensures (after home c.args.object c.args.keys c.args.next c.args.found d key) (λ log. refl)
+    c.requires.acts.ready c.args.fuel.now (c.in_err-charge-in-Some.ensures.spent.0 refl)).part
+
+pub returns-in_err-charge-in-Some-clause-keeps : goal.returns-in_err-charge-in-Some-clause-keeps
+returns-in_err-charge-in-Some-clause-keeps c =
+    let p = err_from_is_err_and c.from_residual.result c.from_residual.ensures.1 in
+    rw p.1 (halted c.args.home AValue p.0 c.args.w.now c.requires.acts.ready)
+
+pub returns-in_err-next-in-Some-clause-keeps : goal.returns-in_err-next-in-Some-clause-keeps
+returns-in_err-next-in-Some-clause-keeps c =
+    let p = err_from_is_err_and c.from_residual-in_err-next-in-Some.result
+    c.from_residual-in_err-next-in-Some.ensures.1 in
+    rw p.1 (halted c.args.home AValue p.0 c.args.w.now c.requires.acts.ready)
+
+pub returns-in_ok-next-in-Some-clause-part : goal.returns-in_ok-next-in-Some-clause-part
+returns-in_ok-next-in-Some-clause-part c =
+    let d = c.args.w.now in
+    let home = c.args.home in
+    let key = c.in-Some.key in
+    let f1 = c.charge.new.self in
+    let a = c.requires.acts in
+    let q = after home c.args.object c.args.keys c.args.next c.args.found d key in
+    let y = r.KeyRead c.args.object key c.args.keys (c.args.next + 1) c.args.found in
+    let k = listed-held d home c.args.keys c.args.next key a.holds.1.0 c.in-Some.ensures in
+    rw (c.waits.ensures, c.in_ok-next-in-Some.ensures)
+    (done-visit home d c.args.keys c.args.next (row home c.args.object c.args.keys c.args.next c.args.found d) key
+    c.in-Some.ensures q (λ log. refl) a.ready (Ok (asked home y (m.GetOwnProperty key) c.args.object)) d
+    c.args.fuel.now f1 f1 c.in_ok-charge-in-Some.ensures.paid
+    (done-asked home d f1 a.ready q y (m.GetOwnProperty key) c.args.object AValue (a.holds.0, (k, a.holds.1))
+    (a.holds.0, (k, tt)) refl refl (λ log. refl))).part
+
+pub returns-in_ok-next-in-Some-clause-keeps : goal.returns-in_ok-next-in-Some-clause-keeps
+returns-in_ok-next-in-Some-clause-keeps c =
+    let d = c.args.w.now in
+    let home = c.args.home in
+    let key = c.in-Some.key in
+    let a = c.requires.acts in
+    let k = listed-held d home c.args.keys c.args.next key a.holds.1.0 c.in-Some.ensures in
+    rw c.waits.ensures
+    (keeps-asked home d a.ready
+    (r.KeyRead c.args.object key c.args.keys c.in_ok-next-in-Some.next c.args.found) (m.GetOwnProperty key)
+    c.args.object AValue (a.holds.0, (k, a.holds.1)) (a.holds.0, (k, tt)) refl refl)
