@@ -2,14 +2,13 @@
 use Rattle.std.proofs.Common.{◌≡◌, ◌≢◌, ◌<◌, ◌++◌, ◌∷◌, Bool, IsSomeAnd, List, None, Some, [], ap, false, if◌then◌else◌, map, refl, slice_get, subst, suc, sym, true, zero, ℕ, ◌∙◌}
 use Rattle.mb_base.specs.declared.value.Side.{Side}
 use Rattle.mb_engine.specs.Begun.{global_scope}
-use Rattle.mb_engine.specs.Interim.{interim, job_ends_by}
+use Rattle.mb_engine.specs.Interim.{has_steps, interim, job_ends_by}
 use Rattle.mb_engine.specs.Turns.{Left, Turns, halts}
 use Rattle.mb_engine.specs.declared.turns.TurnEnd.{TurnEnd}
 use Rattle.mb_engine.specs.declared.turns.TurnEnd.TheVariants.{Ended, Idle, NoMemory, Spent, Uncaught}
 use Rattle.mb_frames.specs.Stepping.{Written}
 use Rattle.mb_growth.proofs.Names.{end-keeps, globals-last, naming, plainly}
 use Rattle.mb_growth.specs.Names.{HasGlobals}
-use Rattle.mb_intrinsics.specs.Ours.{is_basic}
 use Rattle.mb_model.proofs.Kept.Lasting.{scopes-refl}
 use Rattle.mb_model.proofs.Kept.Rows.{RowsHold, given-holds-by, means-holds-by, row-holds, whole}
 use Rattle.mb_model.proofs.Kept.Words.{Along, Fitted, Holds, keeps-type_error}
@@ -50,7 +49,7 @@ if-holds b false p q h k = k
 
 interim-holds : RowsHold naming interim
 interim-holds (Run s p this vs target) g fit a =
-    if-holds g (is_basic (intrinsic p)) (row (Run s p this vs target)) (type_error s finished)
+    if-holds g (has_steps (intrinsic p)) (row (Run s p this vs target)) (type_error s finished)
     (row-holds naming plainly (Run s p this vs target) g fit a)
     (whole naming g (type_error s) plainly.owes ((keeps-type_error naming s).goes g) a)
 interim-holds (Evaluate s n sc this) g fit a = row-holds naming plainly (Evaluate s n sc this) g fit a

@@ -1,4 +1,5 @@
 pub mod Rows
+pub mod Places
 pub mod Stepping
 pub mod Waits
 pub mod Thrown

@@ -1,13 +1,10 @@
 -- A frame gives, by the rows of the interim, what its own row does.
-use Rattle.std.proofs.Common.{Bool, List, None, Option, ap, arith, false, nat_eq, nat_lt, not, refl, suc, sym, true}
-use Rattle.std.proofs.Common.{true≢false, zero, ℕ, ◌&&◌, ◌<◌, ◌∙◌, ◌≡◌, ◌≤◌}
-use Rattle.std.proofs.lemmas.Bool.Decides.{nat_tests}
-use Rattle.std.proofs.lemmas.Option.{slice_get_past}
+use Rattle.std.proofs.Common.{Bool, List, None, Option, ap, false, refl, sym, true, ℕ, ◌||◌, ◌∙◌, ◌≡◌}
 use Rattle.mb_base.specs.declared.value.Side.{Side}
 use Rattle.mb_call.specs.Ours.{IsCallFrame, IsCallTask}
-use Rattle.mb_engine.specs.Interim.{interim}
+use Rattle.mb_engine.specs.Interim.{has_steps, interim}
 use Rattle.mb_engine.specs.machine.Advancing.{now}
-use Rattle.mb_engine.specs.machine.Owning.{IsMissing, basic_place}
+use Rattle.mb_engine.specs.machine.Owning.{IsMissing}
 use Rattle.mb_eval_expr.specs.Ours.{IsExpressionFrame, IsExpressionTask}
 use Rattle.mb_eval_stmt.specs.Ours.{IsStatementFrame, IsStatementTask}
 use Rattle.mb_frames.specs.Resolved.{done_in, task_in}
@@ -19,6 +16,7 @@ use Rattle.mb_frames.specs.declared.task.Outcome.{Outcome as FrameOutcome}
 use Rattle.mb_frames.specs.declared.task.Task.{Task}
 use Rattle.mb_frames.specs.declared.task.Task.TheVariants as t
 use Rattle.mb_intrinsics.specs.Ours.{IsBasicFrame, IsBasicTask, is_basic}
+use Rattle.mb_reflect.specs.Ours.{IsReflectFrame, IsReflectTask, is_reflecting}
 use Rattle.mb_model.proofs.Engine.{given-row, means-charged_row}
 use Rattle.mb_model.specs.Engine.{Pay, exec}
 use Rattle.mb_model.specs.Meaning.{finished, row}
@@ -28,7 +26,7 @@ use Rattle.mb_world.specs.Data.{Data}
 use Rattle.mb_world.specs.Form.{Form}
 use Rattle.mb_world.specs.Graph.{Graph}
 use Rattle.mb_world.specs.Image.{Names, names_of}
-use Rattle.mb_world.specs.Intrinsics.{intrinsic, intrinsics}
+use Rattle.mb_world.specs.Intrinsics.{intrinsic}
 
 abbrev pub SameRow : Names → ℕ → Task → Type 0
 SameRow n s y = interim (task_in n s y) ≡ row (task_in n s y)
@@ -63,6 +61,10 @@ hands-own d y done h k f =
     frame-own (names_of d) (forms_at d y.home) y.home.0 y.frame h (done_in (names_of d) done) k f
 
 -- ---- the tasks of the step crates
+
+or-true : (a b : Bool) → b ≡ true → a || b ≡ true
+or-true true b h = refl
+or-true false b h = h
 
 module _ (d : Data) (n : Names) (s : ℕ) (home : Side) where
   expr-task : (y : Task) → IsExpressionTask d home y → SameRow n s y
@@ -108,6 +110,19 @@ module _ (d : Data) (n : Names) (s : ℕ) (home : Side) where
   basic-task (t.Run place this vs target) h = rw h refl
   basic-task (t.Access place collection request) h = refl
   basic-task (t.Visit place collection function this position) h = refl
+
+  reflect-task : (y : Task) → IsReflectTask y → SameRow n s y
+  reflect-task (t.Evaluate node at) h = refl
+  reflect-task (t.Loop node at) h = refl
+  reflect-task (t.Chain object prototype) h = refl
+  reflect-task (t.Walk object given next) h = refl
+  reflect-task (t.Perform method object viewer enters) h = refl
+  reflect-task (t.Enter function this vs) h = refl
+  reflect-task (t.Run place this vs target) h =
+      let able : has_steps (intrinsic place) ≡ true = or-true (is_basic (intrinsic place)) (is_reflecting (intrinsic place)) h in
+      rw able refl
+  reflect-task (t.Access place collection request) h = refl
+  reflect-task (t.Visit place collection function this position) h = refl
 
   pub expr-row : (y : Frame) → IsExpressionFrame d home y → HasRow n s y
   expr-row (x.Begin y) h = expr-task y h
@@ -165,6 +180,20 @@ module _ (d : Data) (n : Names) (s : ℕ) (home : Side) where
   basic-row (x.Membrane y) h = tt
   basic-row (x.Entry y) h = tt
 
+  pub reflect-row : (y : Frame) → IsReflectFrame y → HasRow n s y
+  reflect-row (x.Begin y) h = reflect-task y h
+  reflect-row (x.Anew y) h = reflect-task y h
+  reflect-row (x.Begun y) h = tt
+  reflect-row (x.Expr y) h = tt
+  reflect-row (x.Stmt y) h = tt
+  reflect-row (x.Call y) h = tt
+  reflect-row (x.Reflect y) h = tt
+  reflect-row (x.Array y) h = tt
+  reflect-row (x.Proxy y) h = tt
+  reflect-row (x.Collect y) h = tt
+  reflect-row (x.Membrane y) h = tt
+  reflect-row (x.Entry y) h = tt
+
 -- ---- a built-in whose steps are missing
 
 pub missing-row : (n : Names) (s : ℕ) (y : Task) → IsMissing y → interim (task_in n s y) ≡ type_error s finished
@@ -177,61 +206,3 @@ missing-row n s (t.Enter function this vs) h = absurd h
 missing-row n s (t.Run place this vs target) h = rw h refl
 missing-row n s (t.Access place collection request) h = absurd h
 missing-row n s (t.Visit place collection function this position) h = absurd h
-
--- ---- the places of the basic built-ins
-
-all-below : ℕ → (ℕ → Bool) → Bool
-all-below zero test = true
-all-below (suc n) test = test n && all-below n test
-
-same-bool : Bool → Bool → Bool
-same-bool true b = b
-same-bool false b = not b
-
-both-true : (a b : Bool) → a && b ≡ true → (a ≡ true) × (b ≡ true)
-both-true true b h = (refl, h)
-both-true false b h = absurd (true≢false (sym h))
-
-holds-below : (n : ℕ) (test : ℕ → Bool) → all-below n test ≡ true → (i : ℕ) → i < n → test i ≡ true
-unfolding all-below
-holds-below zero test h i l = absurd (omega (arith, l))
-holds-below (suc n) test h i l =
-    by (nat_eq i n) refl (holds-below n test ((both-true (test n) (all-below n test) h).1) i)
-  where
-    by : (b : Bool) → nat_eq i n ≡ b → (i < n → test i ≡ true) → test i ≡ true
-    by true e below = let k : i ≡ n = grind (arith, nat_tests, e) in rw k ((both-true (test n) (all-below n test) h).0)
-    by false e below = below (grind (arith, nat_tests, e, l))
-
-bools-same : (a b : Bool) → same-bool a b ≡ true → a ≡ b
-unfolding same-bool
-bools-same true true h = refl
-bools-same true false h = absurd (true≢false (sym h))
-bools-same false true h = absurd (true≢false (sym h))
-bools-same false false h = refl
-
-basic-test : ℕ → Bool
-basic-test n = same-bool (basic_place n) (is_basic (intrinsic n))
-
-basics-below : all-below 80 basic-test ≡ true
-unfolding all-below basic-test same-bool
-basics-below = refl
-
-basic-past : (n : ℕ) → 80 ≤ n → basic_place n ≡ is_basic (intrinsic n)
-basic-past n h =
-    let e : intrinsic n ≡ None = slice_get_past intrinsics n h in
-    let z : nat_eq n 0 ≡ false = grind (arith, nat_tests, h) in
-    let o : nat_eq n 1 ≡ false = grind (arith, nat_tests, h) in
-    let t : nat_eq n 2 ≡ false = grind (arith, nat_tests, h) in
-    let s : nat_eq n 7 ≡ false = grind (arith, nat_tests, h) in
-    let f : nat_eq n 55 ≡ false = grind (arith, nat_tests, h) in
-    rw (e, z, o, t, s, f) refl
-
-pub basic-is : (n : ℕ) → basic_place n ≡ is_basic (intrinsic n)
-unfolding basic-test
-basic-is n = by (nat_lt n 80) refl
-  where
-    by : (b : Bool) → nat_lt n 80 ≡ b → basic_place n ≡ is_basic (intrinsic n)
-    by true e =
-        bools-same (basic_place n) (is_basic (intrinsic n))
-        (holds-below 80 basic-test basics-below n (grind (arith, nat_tests, e)))
-    by false e = basic-past n (grind (arith, nat_tests, e))

@@ -2,7 +2,7 @@
 use Rattle.std.proofs.Common.{List, Some, [], arith, length, refl, slice_get, subst, suc, zero, ℕ, ◌-◌, ◌<◌, ◌∷◌, ◌≡◌}
 use Rattle.std.specs.List.{AllByRecursion}
 use Rattle.mb_engine.specs.declared.owners.Owner.{Owner}
-use Rattle.mb_engine.specs.declared.owners.Owner.TheVariants.{Calls, Expressions, Intrinsics, Missing, Nobody}
+use Rattle.mb_engine.specs.declared.owners.Owner.TheVariants.{Calls, Expressions, Intrinsics, Missing, Nobody, Reflecting}
 use Rattle.mb_engine.specs.declared.owners.Owner.TheVariants.{Statements}
 use Rattle.mb_engine.specs.machine.Owning.{Belongs, IsTopOf}
 use Rattle.mb_frames.specs.Held.{AreIn}
@@ -55,4 +55,5 @@ owns-top d Expressions stack y e h = on-last (Belongs d Expressions) stack y _ r
 owns-top d Statements stack y e h = on-last (Belongs d Statements) stack y _ refl e h
 owns-top d Calls stack y e h = on-last (Belongs d Calls) stack y _ refl e h
 owns-top d Intrinsics stack y e h = on-last (Belongs d Intrinsics) stack y _ refl e h
+owns-top d Reflecting stack y e h = on-last (Belongs d Reflecting) stack y _ refl e h
 owns-top d Missing stack y e h = on-last (Belongs d Missing) stack y _ refl e h

@@ -15,6 +15,7 @@ use mb_eval_expr::step_expr;
 use mb_eval_stmt::step_stmt;
 use mb_frames::{Halt, Lines, Machine};
 use mb_intrinsics::step_intrinsic;
+use mb_reflect::step_reflect;
 use mb_world::World;
 
 /// Steps until no frame is left.
@@ -50,6 +51,7 @@ fn advance(m: &mut Machine, w: &mut World, fuel: &mut Fuel, lines: &mut Lines) -
         Owner::Statements => step_stmt(m, w, fuel, lines),
         Owner::Calls => step_call(m, w, fuel, lines),
         Owner::Intrinsics => step_intrinsic(m, w, fuel, lines),
+        Owner::Reflecting => step_reflect(m, w, fuel, lines),
         Owner::Missing => step_missing(m, w, fuel),
         Owner::Nobody => Err(Halt::NoMemory),
     }

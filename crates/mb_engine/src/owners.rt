@@ -2,8 +2,8 @@
 ghost use Rattle.mb_base.specs.declared.value.Side.{Side as ASide};
 ghost use Rattle.mb_tree.specs.Seen.{seen};
 ghost use Rattle.mb_world.specs.Data.{Data};
-ghost use Rattle.mb_engine.specs.machine.Owning.{AnewBelongs, basic_place, BegunBelongs, Belongs, IsTopOf, OwnsEntry};
-ghost use Rattle.mb_engine.specs.machine.Owning.{OwnsForm, TaskBelongs};
+ghost use Rattle.mb_engine.specs.machine.Owning.{AnewBelongs, basic_place, BegunBelongs, Belongs, IsTopOf, is_within};
+ghost use Rattle.mb_engine.specs.machine.Owning.{OwnsEntry, OwnsForm, TaskBelongs, reflect_place};
 ghost use Rattle.mb_frames.specs.Held.{AreIn};
 ghost use Rattle.mb_frames.specs.Holding.{frame_held, task_held};
 ghost use Rattle.mb_frames.specs.Ready.{IsReadyMachine};
@@ -19,7 +19,11 @@ ghost use Rattle.mb_frames.specs.Told.{told_at};
 
 use mb_base::{NodeId, ObjId, Side};
 use mb_frames::{Frame, Machine, Task, form_at};
-use mb_intrinsics::places::{LABELLED, LATER, PRINT, STRING, SYMBOL};
+use mb_intrinsics::places::{
+    ERROR, ERROR_PROTOTYPE, FUNCTION_PROTOTYPE_APPLY, LABELLED, LATER, OBJECT,
+    OBJECT_GET_OWN_PROPERTY_DESCRIPTOR, OBJECT_GET_OWN_PROPERTY_SYMBOLS, PRINT, REFLECT,
+    REFLECT_APPLY, REFLECT_SET_PROTOTYPE_OF, STRING, SYMBOL,
+};
 use mb_tree::Form;
 use mb_world::{CellKind, World};
 
@@ -30,6 +34,7 @@ pub(crate) enum Owner {
     Statements,
     Calls,
     Intrinsics,
+    Reflecting,
     Missing,
     Nobody,
 }
@@ -58,6 +63,7 @@ fn owner_of_frame(w: &World, home: Side, frame: &Frame) -> Owner
         Frame::Expr(_) => Owner::Expressions,
         Frame::Stmt(_) => Owner::Statements,
         Frame::Call(_) => Owner::Calls,
+        Frame::Reflect(_) => Owner::Reflecting,
         Frame::Entry(_) => owner_of_entry(w),
         _ => Owner::Nobody,
     }
@@ -187,6 +193,8 @@ fn owner_of_built_in(place: u16) -> Owner
 {
     if is_basic(place) {
         Owner::Intrinsics
+    } else if is_reflecting(place) {
+        Owner::Reflecting
     } else {
         Owner::Missing
     }
@@ -196,4 +204,21 @@ fn is_basic(place: u16) -> bool
     ensures { result ≡ basic_place place }
 {
     place == PRINT || place == LATER || place == LABELLED || place == STRING || place == SYMBOL
+}
+
+fn is_reflecting(place: u16) -> bool
+    ensures { result ≡ reflect_place place }
+{
+    place == OBJECT
+        || place == REFLECT
+        || place == OBJECT_GET_OWN_PROPERTY_SYMBOLS
+        || is_within(ERROR, OBJECT_GET_OWN_PROPERTY_DESCRIPTOR, place)
+        || is_within(REFLECT_APPLY, REFLECT_SET_PROTOTYPE_OF, place)
+        || is_within(ERROR_PROTOTYPE, FUNCTION_PROTOTYPE_APPLY, place)
+}
+
+fn is_within(first: u16, last: u16, place: u16) -> bool
+    ensures { result ≡ is_within first last place }
+{
+    first <= place && place <= last
 }

@@ -1,8 +1,11 @@
 // Turns of scripts.
+mod arrays;
 mod built_ins;
 mod calls;
 mod driver;
 mod expressions;
+mod methods;
+mod objects;
 mod operators;
 mod rows;
 mod scripts;
@@ -63,7 +66,7 @@ fn what_may_be_thrown(rt: HostRuntime) {
 
 #[test]
 fn built_ins_without_steps_throw(rt: HostRuntime) {
-    let script = "try { Object.keys({}); } catch (e) { print(\"caught\"); }";
+    let script = "try { Array.isArray(1); } catch (e) { print(\"caught\"); }";
     let told = ran(&rt, rt.alloc(), script, 100);
     is_told(&rt, &told, TurnEnd::Ended, told.left, &["L caught"]);
     let told = ran(&rt, rt.alloc(), "new Array(3);", 100);

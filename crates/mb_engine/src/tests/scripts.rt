@@ -3,6 +3,8 @@ use super::built_ins::BUILT_INS;
 use super::calls::CALLS;
 use super::driver::{has_printed, ran};
 use super::expressions::EXPRESSIONS;
+use super::methods::METHODS;
+use super::objects::OBJECTS;
 use super::operators::{HEAD, OPERATORS, TAIL};
 use super::rows::{each_budget_holds, joined, rows_hold};
 use super::statements::STATEMENTS;
@@ -60,4 +62,24 @@ fn rows_of_built_ins(rt: HostRuntime) {
 #[test]
 fn built_ins_with_each_budget(rt: HostRuntime) {
     each_budget_holds(&rt, rt.alloc(), BUILT_INS);
+}
+
+#[test]
+fn rows_of_methods(rt: HostRuntime) {
+    rows_hold(&rt, rt.alloc(), METHODS);
+}
+
+#[test]
+fn methods_with_each_budget(rt: HostRuntime) {
+    each_budget_holds(&rt, rt.alloc(), METHODS);
+}
+
+#[test]
+fn rows_of_objects(rt: HostRuntime) {
+    rows_hold(&rt, rt.alloc(), OBJECTS);
+}
+
+#[test]
+fn objects_with_each_budget(rt: HostRuntime) {
+    each_budget_holds(&rt, rt.alloc(), OBJECTS);
 }

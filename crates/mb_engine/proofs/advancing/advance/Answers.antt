@@ -1,5 +1,5 @@
 use Rattle.mb_call.specs.Ours.{IsCallFrame}
-use Rattle.mb_engine.proofs.Rows.{basic-row, call-row, expr-row, stmt-row}
+use Rattle.mb_engine.proofs.Rows.{basic-row, call-row, expr-row, reflect-row, stmt-row}
 use Rattle.mb_engine.proofs.Stepping.{advances-by}
 use Rattle.mb_eval_expr.specs.Ours.{IsExpressionFrame}
 use Rattle.mb_eval_stmt.specs.Ours.{IsStatementFrame}
@@ -7,6 +7,7 @@ use Rattle.mb_frames.specs.Stepping.{written}
 use Rattle.mb_frames.specs.declared.machine.Waiting.{Waiting}
 use Rattle.mb_intrinsics.specs.Ours.{IsBasicFrame}
 use Rattle.mb_parts.proofs.TopFrames.{on-top}
+use Rattle.mb_reflect.specs.Ours.{IsReflectFrame}
 use Rattle.mb_world.specs.Image.{names_of}
 use Rattle.mb_engine.proofs.advancing.advance.Goals as goal
 
@@ -45,3 +46,12 @@ returns-in-Intrinsics-clause-rest c =
     (λ below top was. basic-row c.args.w.now (names_of c.args.w.now) top.home.0 top.home top.frame
     (on-top (λ (y : Waiting). IsBasicFrame y.frame) c.args.m.now.stack.items below top was c.in-Intrinsics.ensures))
     c.step_intrinsic.ensures.steps
+
+pub returns-in-Reflecting-clause-rest : goal.returns-in-Reflecting-clause-rest
+returns-in-Reflecting-clause-rest c =
+    advances-by c.step_reflect.result c.args.m.now c.step_reflect.new.m c.args.w.now c.step_reflect.new.w
+    c.args.fuel.now c.step_reflect.new.fuel
+    (written c.args.lines.now) (written c.step_reflect.new.lines) c.requires.ready
+    (λ below top was. reflect-row c.args.w.now (names_of c.args.w.now) top.home.0 top.home top.frame
+    (on-top (λ (y : Waiting). IsReflectFrame y.frame) c.args.m.now.stack.items below top was c.in-Reflecting.ensures))
+    c.step_reflect.ensures.steps
