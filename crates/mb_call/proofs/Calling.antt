@@ -5,7 +5,7 @@ use Rattle.mb_base.specs.declared.value.ObjId.{ObjId}
 use Rattle.mb_base.specs.declared.value.Side.{Side}
 use Rattle.mb_base.specs.declared.value.Value.{Value}
 use Rattle.mb_call.proofs.Looking.{part-sure}
-use Rattle.mb_call.specs.machine.Acting.{owner_by}
+use Rattle.mb_call.specs.Owners.{owner_by}
 use Rattle.mb_frames.proofs.HeldAs.{held-as}
 use Rattle.mb_frames.proofs.HeldCells.{reads-home}
 use Rattle.mb_frames.proofs.HeldLess.{as-function}

@@ -8,7 +8,8 @@ use Rattle.mb_base.specs.declared.value.ObjId.{ObjId}
 use Rattle.mb_base.specs.declared.value.Side.{Side}
 use Rattle.mb_call.proofs.Due.{cell-foreign}
 use Rattle.mb_call.proofs.Things.{cell-thing}
-use Rattle.mb_call.specs.Due.{is_built_in, is_due, is_of_another}
+use Rattle.mb_call.specs.Due.{IsForeignTask, is_built_in, is_due, is_of_another}
+use Rattle.mb_call.specs.Ours.{Acts}
 use Rattle.mb_call.specs.machine.Noting.{key_given, method_given}
 use Rattle.mb_frames.proofs.Changing.{there}
 use Rattle.mb_frames.proofs.HeldCells.{reads-home}
@@ -24,6 +25,7 @@ use Rattle.mb_frames.specs.Resolved.{given_in, method_in, task_in}
 use Rattle.mb_frames.specs.Sorts.{method_gives, op_gives}
 use Rattle.mb_frames.specs.Standing.{Logged, entry_by}
 use Rattle.mb_frames.specs.Stepping.{Step, Written}
+use Rattle.mb_frames.specs.Wholeness.{IsProxyAt}
 use Rattle.mb_frames.specs.declared.frame.Entering.{Entering}
 use Rattle.mb_frames.specs.declared.frame.Frame.TheVariants as x
 use Rattle.mb_frames.specs.declared.frame.Move.TheVariants as move
@@ -77,6 +79,16 @@ module _ (d : Data) (r : IsReady d) (home : Side) (id : ObjId) (h : MayHold d ho
       (All-at (λ (c : Cell). is_of_membrane c.kind ≡ false) d.cells id.0 its-cell.0 its-cell.1
       (r.formed.joined due-joined).membrane) log)
       ∙ cell-foreign d home (Some its-cell.0) ∙ its-another
+
+-- a method that is due is one of a foreign object
+pub due-foreign-task : (d : Data) (home : Side) (y : Task) → Acts d home (task_held y) → is_due d home y ≡ true
+    → IsForeignTask d home y
+due-foreign-task d home (task.Perform method object viewer true) a u = (
+  due-foreign d a.ready home object a.holds.0 u,
+  λ v. absurd (true≢false (sym (due-joined d a.ready home object a.holds.0 u) ∙ v)),
+)
+due-foreign-task d home (task.Perform method object viewer false) a u = absurd (true≢false (sym u))
+due-foreign-task d home y a u = absurd (true≢false (sym u))
 
 -- ---- what its entry says
 
@@ -169,9 +181,10 @@ pub record IsEntry (d : Data) (method : Method) (object : ObjId) (y : Entering) 
   pub key : y.key ≡ key_given method
   pub given : y.given ≡ method_given method
 
-module _ (d : Data) (r : IsReady d) (home : Side) (method : Method) (object : ObjId) (viewer : Side) (y : Entering)
+module _ (d : Data) (home : Side) (method : Method) (object : ObjId) (viewer : Side) (y : Entering)
     (i : IsEntry d method object y) (h : Holds d home (HeldObject object ∷ method_held object method))
-    (u : is_of_another home (cell_at d object) ≡ true) where
+    (foreign : (log : List Item) → is_foreign_at home.0 (thing_at (Image d log) (object_in (names_of d) object)) ≡ true)
+    (proxy : d.joined ≡ false → IsProxyAt d home object) where
   abbrev n : Names
   n = names_of d
 
@@ -194,7 +207,7 @@ module _ (d : Data) (r : IsReady d) (home : Side) (method : Method) (object : Ob
       let g : Graph = Image d log in
       let p = perform_row home.0 viewer.0 (object_in n object) (method_in n method) finished g in
       ap (λ (b : Bool). entering b (method_noted (entries_made g) home.0 (object_in n object) (method_in n method)) p)
-      (due-foreign d r home object h.0 u log)
+      (foreign log)
       ∙ ap (λ (f : model.Outcome → Graph → Graph). ending f p) (λ j q k. with_entry (entry-is log e q j) k)
 
   pub held-entering : Holds d home (entering_held y)
@@ -203,7 +216,7 @@ module _ (d : Data) (r : IsReady d) (home : Side) (method : Method) (object : Ob
     (
       record {
         within = h.0.within;
-        sound = λ v. absurd (true≢false (sym (due-joined d r home object h.0 u) ∙ v));
+        sound = proxy;
         own = h.0.own;
       },
       (h.0, (key-held d home object method h.1, given-held d home object method h.1)),
@@ -227,17 +240,17 @@ module _ (d : Data) (r : IsReady d) (home : Side) (method : Method) (object : Ob
     gives = rw (i.op n, op-gives n method) (fits-same (method_gives method), fits-same (method_gives method));
   }
 
--- where the method is due to make its entry
-module _ (d : Data) (r : IsReady d) (home : Side) (method : Method) (object : ObjId) (viewer : Side) (y : Entering)
+-- where the method enters, of a foreign object
+module _ (d : Data) (home : Side) (method : Method) (object : ObjId) (viewer : Side) (y : Entering)
     (i : IsEntry d method object y) (h : Holds d home (HeldObject object ∷ method_held object method)) where
-  pub Step-entering : (enters : Bool) → is_due d home (task.Perform method object viewer enters) ≡ true → (f : ℕ)
+  pub Step-entering : (enters : Bool) → IsForeignTask d home (task.Perform method object viewer enters) → (f : ℕ)
       (l : Written)
       → Step home false (Ok (move.Entered (x.Entry y) (task.Perform method object viewer false))) d d f f l l
       (charged_row row (task_in (names_of d) home.0 (task.Perform method object viewer enters)))
-  Step-entering true u f l = Step-due d r home method object viewer y i h u f l
-  Step-entering false u f l = absurd (true≢false (sym u))
+  Step-entering true u f l = Step-due d home method object viewer y i h u.0 u.1 f l
+  Step-entering false u f l = absurd u
 
-  pub leaves-entering : (enters : Bool) → is_due d home (task.Perform method object viewer enters) ≡ true
+  pub leaves-entering : (enters : Bool) → IsForeignTask d home (task.Perform method object viewer enters)
       → Leaves d home (method_gives method) (move.Entered (x.Entry y) (task.Perform method object viewer false))
-  leaves-entering true u = leaves-due d r home method object viewer y i h u
-  leaves-entering false u = absurd (true≢false (sym u))
+  leaves-entering true u = leaves-due d home method object viewer y i h u.0 u.1
+  leaves-entering false u = absurd u

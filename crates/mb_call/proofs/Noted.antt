@@ -2,7 +2,8 @@
 use Rattle.std.proofs.Common.{◌++◌, ◌<◌, ◌≤◌, Bool, Err, List, Ok, [], ap, arith, false, length, refl, subst, sym}
 use Rattle.std.proofs.Common.{true, true≢false, ℕ, ◌∙◌, ◌∷◌, ◌≡◌}
 use Rattle.mb_base.specs.declared.value.Side.{Side}
-use Rattle.mb_call.specs.machine.Noting.{IsLineOfLast, KeepsNoting, WritesIf}
+use Rattle.mb_call.specs.Lines.{IsLineOfLast, WritesIf}
+use Rattle.mb_call.specs.machine.Noting.{KeepsNoting}
 use Rattle.mb_frames.proofs.Founding.{sound-stays}
 use Rattle.mb_frames.proofs.Growing.{are-grown, held-grows}
 use Rattle.mb_frames.proofs.Leaving.{holds-in}

@@ -5,7 +5,8 @@ use Rattle.mb_base.specs.declared.value.ObjId.{ObjId}
 use Rattle.mb_base.specs.declared.value.Side.{Side}
 use Rattle.mb_base.specs.declared.value.Value.{Value}
 use Rattle.mb_call.specs.Ours.{Acts}
-use Rattle.mb_call.specs.machine.Acting.{acting_side, begun_side, method_side, owner_by, owner_of, task_side}
+use Rattle.mb_call.specs.Owners.{owner_by, owner_of}
+use Rattle.mb_call.specs.machine.Acting.{acting_side, begun_side, method_side, task_side}
 use Rattle.mb_call.specs.Due.{is_due}
 use Rattle.mb_frames.proofs.HeldCells.{code-held, reads-home}
 use Rattle.mb_frames.proofs.HeldLess.{all-anywhere, function-object, is_of_no_home}

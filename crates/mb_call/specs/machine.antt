@@ -1,7 +1,6 @@
 pub mod Acting
 pub mod Descriptors
 pub mod Functions
-pub mod Keeping
 pub mod Lists
 pub mod Methods
 pub mod Noting

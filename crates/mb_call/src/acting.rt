@@ -4,7 +4,8 @@ ghost use Rattle.mb_world.specs.Data.{cell_at};
 ghost use Rattle.mb_world.specs.Ids.{ObjIn};
 ghost use Rattle.mb_frames.specs.Held.{AreIn};
 ghost use Rattle.mb_frames.specs.Holding.{frame_held, task_held};
-ghost use Rattle.mb_call.specs.machine.Acting.{acting_side, owner_of, task_side};
+ghost use Rattle.mb_call.specs.Owners.{owner_of};
+ghost use Rattle.mb_call.specs.machine.Acting.{acting_side, task_side};
 ghost use Rattle.mb_call.specs.Due.{is_due, is_of_another};
 
 use mb_base::{ObjId, Side};

@@ -7,7 +7,7 @@ ghost use Rattle.mb_frames.specs.Sorts.{AValue};
 ghost use Rattle.mb_ordinary.specs.Objects.{IsOrdinary};
 ghost use Rattle.mb_world.specs.Data.{cell_at};
 ghost use Rattle.mb_call.specs.Ours.{Acts};
-ghost use Rattle.mb_call.specs.machine.Methods.{DoesMethod};
+ghost use Rattle.mb_call.specs.Methods.{DoesMethod};
 
 use crate::errors::type_error;
 use mb_base::{ObjId, Side, Value};

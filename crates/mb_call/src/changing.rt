@@ -8,7 +8,7 @@ ghost use Rattle.mb_ordinary.specs.Objects.{IsOrdinary};
 ghost use Rattle.mb_world.specs.Data.{cell_at};
 ghost use Rattle.mb_world.specs.Ids.{KeyIn};
 ghost use Rattle.mb_call.specs.Ours.{Acts};
-ghost use Rattle.mb_call.specs.machine.Methods.{DoesMethod, IsFree};
+ghost use Rattle.mb_call.specs.Methods.{DoesMethod, IsFree};
 ghost use Rattle.mb_frames.specs.declared.task.Method.TheVariants as TheMethod;
 
 use crate::errors::throws;
@@ -20,9 +20,9 @@ use mb_frames::{Halt, Move};
 use mb_ordinary::{delete, prevent};
 use mb_world::{ErrorKind, World};
 
-// [[PreventExtensions]] (ECMA-262, 10.1.4).
-pub(crate) fn prevent_extensions(w: &mut World, object: ObjId) -> Move
-    requires { IsOrdinary (cell_at w.old object) }
+/// [[PreventExtensions]] (ECMA-262, 10.1.4), which ends in this step.
+pub fn prevent_extensions(w: &mut World, object: ObjId) -> Move
+    requires ordinary { IsOrdinary (cell_at w.old object) }
     ensures part { (home viewer : ASide) → Acts w.old home (HeldObject object ∷ []) → (f : ℕ) →
         DoesMethod home home viewer object TheMethod.PreventExtensions (Ok result) w.old w.new f f }
     ensures keeps { (home : ASide) → Acts w.old home (HeldObject object ∷ []) →
@@ -31,8 +31,8 @@ pub(crate) fn prevent_extensions(w: &mut World, object: ObjId) -> Move
     yes_or_no(prevent(w, object))
 }
 
-// [[Delete]] (ECMA-262, 10.1.10), where the policy leaves it to the object.
-pub(crate) fn delete_key(w: &mut World, object: ObjId, key: Key) -> Move
+/// [[Delete]] (ECMA-262, 10.1.10), where the policy leaves it to the object; it ends in this step.
+pub fn delete_key(w: &mut World, object: ObjId, key: Key) -> Move
     requires ordinary { IsOrdinary (cell_at w.old object) }
     requires key { KeyIn w.old key }
     ensures part { (home viewer : ASide) → Acts w.old home (HeldObject object ∷ HeldKey key ∷ []) →

@@ -21,8 +21,8 @@ ghost use Rattle.mb_world.specs.Image.{Resolve, names_of, object_in};
 ghost use Rattle.mb_world.specs.Key.{Named};
 ghost use Rattle.mb_world.specs.Standard.{object_prototype};
 ghost use Rattle.mb_call.specs.Ours.{Acts};
-ghost use Rattle.mb_call.specs.machine.Acting.{owner_of};
-ghost use Rattle.mb_call.specs.machine.Methods.{DoesMethod};
+ghost use Rattle.mb_call.specs.Owners.{owner_of};
+ghost use Rattle.mb_call.specs.Methods.{DoesMethod};
 
 use crate::errors::type_error;
 use crate::giving::asks;
@@ -37,9 +37,9 @@ const OBJECT_PROTOTYPE: u16 = 13;
 // The units of the text `prototype`.
 const PROTOTYPE: [u16; 9] = [112, 114, 111, 116, 111, 116, 121, 112, 101];
 
-// [[Construct]]: a function's owner acts, and gets the new target's `prototype` first; a built-in runs for the side
-// that acts already.
-pub(crate) fn construct(
+/// [[Construct]] (ECMA-262, 10.2.2, 10.3.2): a function's owner acts, and gets the new target's `prototype` first; a
+/// built-in runs for the side that acts already. What constructs nothing throws a TypeError of `home`.
+pub fn construct(
     w: &mut World,
     home: Side,
     side: Side,

@@ -19,7 +19,7 @@ ghost use Rattle.mb_model.specs.Nodes.Scopes.{declare};
 ghost use Rattle.mb_world.specs.Data.{cell_at, program_of};
 ghost use Rattle.mb_world.specs.Image.{Resolve, code_in, names_of, object_in};
 ghost use Rattle.mb_call.specs.Ours.{Acts, is_entered};
-ghost use Rattle.mb_call.specs.machine.Acting.{owner_of};
+ghost use Rattle.mb_call.specs.Owners.{owner_of};
 ghost use Rattle.mb_call.specs.machine.Functions.{entering, own_count, own_name, params_at, this_in};
 ghost use Rattle.mb_frames.specs.Keeping.{KeepsAnswer, none_held, scope_held};
 ghost use Rattle.mb_parts.specs.Scopes.{bound_by, unbound};

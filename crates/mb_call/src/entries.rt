@@ -15,9 +15,9 @@ ghost use Rattle.mb_world.specs.Ids.{EntryIn};
 ghost use Rattle.mb_world.specs.Image.{Names, entry_in, names_of, seen_in};
 ghost use Rattle.mb_world.specs.Value.{number_of};
 ghost use Rattle.mb_call.specs.Ours.{Acts};
-ghost use Rattle.mb_call.specs.Due.{IsMethodTask, is_due};
-ghost use Rattle.mb_call.specs.machine.Noting.{IsLineOfLast, KeepsNoting, WritesLast, key_given};
-ghost use Rattle.mb_call.specs.machine.Noting.{method_given};
+ghost use Rattle.mb_call.specs.Due.{IsForeignTask, IsMethodTask};
+ghost use Rattle.mb_call.specs.Lines.{IsLineOfLast, WritesLast};
+ghost use Rattle.mb_call.specs.machine.Noting.{KeepsNoting, key_given, method_given};
 
 use crate::saying::{said_given, said_outcome, seen_object};
 use mb_base::{Key, NoMemory, Side};
@@ -25,14 +25,14 @@ use mb_frames::{Entering, Frame, Given, Halt, Lines, Method, Move, Outcome, Task
 use mb_trace::line;
 use mb_world::{Entry, Op, Seen, World};
 
-/// Puts the entry of a method below it, with how many entries there are so far; the method has begun then, and its unit
-/// and row are still to come.
+/// Puts the entry of a method of a foreign object below it, with how many entries there are so far; the method has begun
+/// then, and its unit and row are still to come.
 pub fn entered(w: &World, task: Task) -> Result<Move, Halt>
     requires { IsMethodTask task }
     ensures step { (home : ASide) (f : ℕ) (l : Written) → Acts w.now home (task_held task) →
-        is_due w.now home task ≡ true →
+        IsForeignTask w.now home task →
         Step home false result w.now w.now f f l l (charged_row row (task_in (names_of w.now) home.0 task)) }
-    ensures leaves { (home : ASide) → Acts w.now home (task_held task) → is_due w.now home task ≡ true →
+    ensures leaves { (home : ASide) → Acts w.now home (task_held task) → IsForeignTask w.now home task →
         LeavesBy w.now home (task_gives (forms_at w.now home) task) result }
 {
     match task {
@@ -143,11 +143,11 @@ pub(crate) fn note(
     Ok(Move::Done(outcome))
 }
 
-// The line of the last entry is written, where the trace is.
-fn write_last(w: &World, lines: &mut Lines) -> Result<(), NoMemory>
-    requires two_sides { w.now.sides ≡ 2 }
+/// Writes the line of the last entry, where the trace is written. The time is linear in the line.
+pub fn write_last(w: &World, lines: &mut Lines) -> Result<(), NoMemory>
+    requires two_sides { lines.old.lettered ≡ false → w.now.sides ≡ 2 }
     requires some { w.now.entries ≢ [] }
-    ensures { WritesLast result w.now (written lines.old) (written lines.new) }
+    ensures written { WritesLast result w.now (written lines.old) (written lines.new) }
 {
     if !lines.traced {
         return Ok(());
@@ -157,8 +157,13 @@ fn write_last(w: &World, lines: &mut Lines) -> Result<(), NoMemory>
     Ok(())
 }
 
-// The entry that an outcome completes.
-fn entry_by(w: &World, side: Side, entering: Entering, outcome: &Outcome) -> Result<Entry, NoMemory>
+/// The entry that an outcome completes, as that side made it.
+pub fn entry_by(
+    w: &World,
+    side: Side,
+    entering: Entering,
+    outcome: &Outcome,
+) -> Result<Entry, NoMemory>
     requires acts { Acts w.now side (entering_held entering) }
     requires outcome { Holds w.now side (outcome_held outcome.now) }
     ensures entry { IfOk result (λ e. entry_in w.now.texts e
@@ -189,7 +194,7 @@ fn number_of(seen: Seen) -> u32
 
 // The line of the last entry.
 fn last_line(w: &World, lettered: bool) -> Result<Vec<u8>, NoMemory>
-    requires two_sides { w.now.sides ≡ 2 }
+    requires two_sides { lettered ≡ false → w.now.sides ≡ 2 }
     requires some { w.now.entries ≢ [] }
     ensures { IfOk result (λ line. IsLineOfLast w.now lettered line.items) }
 {

@@ -19,8 +19,8 @@ use mb_desc::Full;
 use mb_frames::{Answer, Method, Move, Outcome, Task};
 use mb_world::KeyList;
 
-// The row ends with a value.
-pub(crate) fn value(x: Value) -> Move
+/// The row ends with a value, of the sort that it has.
+pub fn value(x: Value) -> Move
     ensures sure { (home : ASide) (d : Data) → ValueIn d x →
         Sure home d (is_value (Resolve (names_of d) x) finished) result }
     ensures leaves { (home : ASide) (d : Data) → Holds d home (HeldValue x ∷ []) → Leaves d home AValue result }
@@ -30,16 +30,16 @@ pub(crate) fn value(x: Value) -> Move
     Move::Done(Outcome::Normal(Answer::Value(x)))
 }
 
-// The method answers yes or no.
-pub(crate) fn yes_or_no(b: bool) -> Move
+/// The method answers yes or no.
+pub fn yes_or_no(b: bool) -> Move
     ensures sure { (home : ASide) (d : Data) → Sure home d (yes_or_no b finished) result }
     ensures leaves { (home : ASide) (d : Data) → Leaves d home AFlag result }
 {
     Move::Done(Outcome::Normal(Answer::Flag(b)))
 }
 
-// The method answers with a property, or that there is none.
-pub(crate) fn property(found: Option<Full<Value>>) -> Move
+/// The method answers with a property, or that there is none.
+pub fn property(found: Option<Full<Value>>) -> Move
     ensures sure { (home : ASide) (d : Data) → Maybe (FullIn d) found →
         Sure home d (give (Prop (real_in (names_of d) found)) finished) result }
     ensures leaves { (home : ASide) (d : Data) → Holds d home (HeldReal found ∷ []) → Leaves d home AProperty result }
@@ -47,8 +47,8 @@ pub(crate) fn property(found: Option<Full<Value>>) -> Move
     Move::Done(Outcome::Normal(Answer::Prop(found)))
 }
 
-// The method answers with keys.
-pub(crate) fn keys(found: Vec<Key>) -> Move
+/// The method answers with keys.
+pub fn keys(found: Vec<Key>) -> Move
     ensures sure { (home : ASide) (d : Data) → All (KeyIn d) found.items →
         Sure home d (give (Keys (keys_of (names_of d) found.items)) finished) result }
     ensures leaves { (home : ASide) (d : Data) → Holds d home (HeldKeys found.items ∷ []) →
@@ -57,8 +57,8 @@ pub(crate) fn keys(found: Vec<Key>) -> Move
     Move::Done(Outcome::Normal(Answer::Keys(KeyList::from(found))))
 }
 
-// The row ends with a method of an object.
-pub(crate) fn performs(home: Side, method: Method, object: ObjId) -> Move
+/// The row ends with a method of an object as that side sees it, which makes its entry where it is due.
+pub fn performs(home: Side, method: Method, object: ObjId) -> Move
     ensures sure { (d : Data) → AreIn d (HeldObject object ∷ method_held object method) →
         Sure home d (answer (perform home.0 (method_in (names_of d) method) (object_in (names_of d) object)) finished)
         result }
@@ -68,8 +68,8 @@ pub(crate) fn performs(home: Side, method: Method, object: ObjId) -> Move
     Move::Next(asks(home, method, object))
 }
 
-// A method of an object as that side sees it.
-pub(crate) fn asks(home: Side, method: Method, object: ObjId) -> Task
+/// The task of a method of an object as that side sees it, which makes its entry where it is due.
+pub fn asks(home: Side, method: Method, object: ObjId) -> Task
     ensures { result ≡ Task.Perform method object home true }
 {
     Task::Perform {

@@ -28,8 +28,16 @@ mod writing;
 
 pub use acting::is_due;
 pub use arrays::is_array;
+pub use changing::{delete_key, prevent_extensions};
+pub use constructions::construct;
 pub use descriptors::todesc;
-pub use entries::entered;
+pub use entries::{entered, entry_by, write_last};
+pub use giving::{asks, keys, performs, property, value, yes_or_no};
 pub use lists::list_of;
 pub use making::fromdesc;
+pub use methods::own_keys;
+pub use parts::key_of_word;
+pub use reading::call_getter;
 pub use step::step_call;
+pub use walk::set_prototype;
+pub use writing::{set_found, store};

@@ -10,7 +10,7 @@ ghost use Rattle.mb_model.specs.Operations.Descriptors.{fromdesc};
 ghost use Rattle.mb_world.specs.Ids.{HasItsIds, Maybe, ObjIn, ValueIn};
 ghost use Rattle.mb_world.specs.Image.{Resolve, desc_in, names_of};
 ghost use Rattle.mb_call.specs.machine.Descriptors.{PutsField, field_units, field_value, truth_if};
-ghost use Rattle.mb_call.specs.machine.Keeping.{object_held};
+ghost use Rattle.mb_parts.specs.Keeping.{object_held};
 
 use crate::fields::field_units;
 use mb_base::{ObjId, Side, Value};

@@ -17,7 +17,7 @@ ghost use Rattle.mb_world.specs.Image.{names_of, object_at, object_in};
 ghost use Rattle.mb_world.specs.View.{shown_keys};
 ghost use Rattle.mb_call.specs.Ours.{Acts};
 ghost use Rattle.mb_call.specs.machine.Acting.{method_side};
-ghost use Rattle.mb_call.specs.machine.Methods.{DoesMethod, IsFree};
+ghost use Rattle.mb_call.specs.Methods.{DoesMethod, IsFree};
 
 use crate::calls::call;
 use crate::changing::{define, delete_key, prevent_extensions};
@@ -101,8 +101,9 @@ fn ordinary(
     }
 }
 
-// [[OwnPropertyKeys]] (ECMA-262, 10.1.11) of the view: a unit for each key.
-fn own_keys(w: &World, fuel: &mut Fuel, viewer: Side, object: ObjId) -> Result<Move, Halt>
+/// [[OwnPropertyKeys]] (ECMA-262, 10.1.11) of what a side sees of an object: a unit for each key, and `Spent` where
+/// these are not there.
+pub fn own_keys(w: &World, fuel: &mut Fuel, viewer: Side, object: ObjId) -> Result<Move, Halt>
     requires object { IsOrdinary (cell_at w.now object) }
     ensures part { (home : ASide) → DoesMethod home home viewer object Method.OwnPropertyKeys result w.now w.now
         fuel.old fuel.new }

@@ -104,9 +104,9 @@ pub(crate) fn param_name(w: &World, home: Side, node: NodeId, place: usize) -> O
     }
 }
 
-// A key that is a word, which is added to the texts where it isn't there yet.
-pub(crate) fn key_of_word(w: &mut World, units: &[u16]) -> Result<Key, NoMemory>
-    requires { length units.now ≤ 2 ^ 20 }
+/// The key that a word spells, which is added to the texts where it isn't there yet.
+pub fn key_of_word(w: &mut World, units: &[u16]) -> Result<Key, NoMemory>
+    requires units { length units.now ≤ 2 ^ 20 }
     ensures key { IfOk result (λ k. key_in (names_of w.new) k ≡ Named units.now) }
     ensures within { IfOk result (KeyIn w.new) }
     ensures grew { OnOk result (TextsGrew w.old w.new) }

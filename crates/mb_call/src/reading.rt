@@ -11,7 +11,7 @@ ghost use Rattle.mb_world.specs.Data.{cell_at};
 ghost use Rattle.mb_world.specs.Formed.{IsCallableOrNot};
 ghost use Rattle.mb_world.specs.Image.{Resolve, names_of};
 ghost use Rattle.mb_call.specs.Ours.{Acts};
-ghost use Rattle.mb_call.specs.machine.Methods.{DoesMethod};
+ghost use Rattle.mb_call.specs.Methods.{DoesMethod};
 
 use crate::giving::{performs, value, yes_or_no};
 use mb_base::{Key, ObjId, Side, Value};
@@ -65,8 +65,9 @@ pub(crate) fn get(
     }
 }
 
-// A getter is called with the receiver as `this`; a property without one is undefined.
-fn call_getter(w: &World, home: Side, receiver: Value, getter: Value) -> Move
+/// A getter is called with the receiver as `this` and no arguments; a property without one is undefined (ECMA-262,
+/// 10.1.8.1).
+pub fn call_getter(w: &World, home: Side, receiver: Value, getter: Value) -> Move
     requires acts { Acts w.now home (HeldValue receiver ∷ HeldValue getter ∷ []) }
     requires getter { IsCallableOrNot w.now getter }
     ensures sure { Sure home w.now (call_getter home.0 (Resolve (names_of w.now) receiver)

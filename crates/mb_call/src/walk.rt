@@ -17,7 +17,7 @@ ghost use Rattle.mb_ordinary.specs.Objects.{IsOrdinary};
 ghost use Rattle.mb_world.specs.Data.{cell_at};
 ghost use Rattle.mb_world.specs.Image.{Resolve, names_of, object_in};
 ghost use Rattle.mb_call.specs.Ours.{Acts};
-ghost use Rattle.mb_call.specs.machine.Methods.{DoesMethod};
+ghost use Rattle.mb_call.specs.Methods.{DoesMethod};
 ghost use Rattle.mb_call.specs.machine.Walks.{Visits};
 
 use crate::giving::yes_or_no;
@@ -26,8 +26,10 @@ use mb_frames::{Halt, Move, Task};
 use mb_ordinary::{Visit, proto_answer, visit};
 use mb_world::World;
 
-// OrdinarySetPrototypeOf (ECMA-262, 10.1.2.1).
-pub(crate) fn set_prototype(
+/// OrdinarySetPrototypeOf (ECMA-262, 10.1.2.1), as far as a step gets: the answer where it is clear at once, and else
+/// the first visit of the walk, which costs a unit. `Spent` comes where that unit is not there; the world stays as it
+/// was then.
+pub fn set_prototype(
     w: &mut World,
     fuel: &mut Fuel,
     object: ObjId,

@@ -16,7 +16,7 @@ ghost use Rattle.mb_world.specs.Ordinary.{written};
 ghost use Rattle.mb_world.specs.Property.{open_property};
 ghost use Rattle.mb_world.specs.Value.{Val};
 ghost use Rattle.mb_call.specs.Ours.{Acts};
-ghost use Rattle.mb_call.specs.machine.Methods.{DoesMethod};
+ghost use Rattle.mb_call.specs.Methods.{DoesMethod};
 
 use crate::giving::{asks, performs, yes_or_no};
 use mb_base::{Key, ObjId, Side, Value};
@@ -59,8 +59,9 @@ pub(crate) fn set(
     }
 }
 
-// The object has that property, as the viewing side sees it.
-fn set_found(
+/// OrdinarySetWithOwnDescriptor (ECMA-262, 10.1.9.2) where the object has the property: a value that can be written goes
+/// to the receiver, a setter is called.
+pub fn set_found(
     w: &World,
     home: Side,
     found: Full<Value>,
@@ -107,8 +108,9 @@ fn call_setter(
     ))
 }
 
-// The value is to be stored in the receiver: what that has is read first.
-fn store(home: Side, key: Key, x: Value, receiver: Value) -> Move
+/// The value is to be stored in the receiver (ECMA-262, 10.1.9.2, step 2): what that has is read first. A receiver that
+/// is no object takes nothing.
+pub fn store(home: Side, key: Key, x: Value, receiver: Value) -> Move
     ensures sure { (d : Data) → Acts d home (HeldKey key ∷ HeldValue x ∷ HeldValue receiver ∷ []) →
         Sure home d (store home.0 (key_in (names_of d) key) (Resolve (names_of d) x) (Resolve (names_of d) receiver)
         finished) result }

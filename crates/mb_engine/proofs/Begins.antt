@@ -13,7 +13,8 @@ use Rattle.mb_world.specs.Data.{Data, objects_of}
 use Rattle.mb_world.specs.Graph.{Graph, Scope}
 use Rattle.mb_world.specs.Ids.{HasItsIds}
 use Rattle.mb_world.specs.Image.{program_in}
-use Rattle.std.proofs.Common.{List, None, Option, Some, [], ap, length, refl, slice_get, subst, sym, take, true, ℕ, ◌∙◌, ◌≡◌}
+use Rattle.std.proofs.Common.{List, None, Option, Some, [], ap, length, refl, slice_get, subst, sym, take, true, ℕ}
+use Rattle.std.proofs.Common.{◌∙◌, ◌≡◌}
 use Rattle.std.proofs.lemmas.List.{length-map}
 
 -- ---- before it is furnished

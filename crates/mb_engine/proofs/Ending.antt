@@ -6,11 +6,10 @@ use Rattle.std.specs.Prelude.{IfOk, IsSome, OnOk, drop, if◌then◌else◌, tak
 use Rattle.mb_base.specs.declared.value.Side.{Side}
 use Rattle.mb_base.specs.declared.value.Value.{Value}
 use Rattle.mb_engine.proofs.Reaching.{told-none, told-then}
-use Rattle.mb_engine.specs.Interim.{TurnBy, interim, job_ends_by, take_turn_by}
 use Rattle.mb_engine.specs.Turns.{IsTold, Left, Turns, halts}
 use Rattle.mb_engine.specs.declared.turns.TurnEnd.{TurnEnd}
 use Rattle.mb_engine.specs.declared.turns.TurnEnd.TheVariants as end
-use Rattle.mb_engine.specs.machine.Advancing.{Reached, Reaches, Stuck, now}
+use Rattle.mb_engine.specs.machine.Advancing.{Reached, Reaches, Stuck, meant}
 use Rattle.mb_engine.specs.machine.Running.{Finishes, IsRealOutcome, JobEnds}
 use Rattle.mb_frames.proofs.Apartness.{value-real}
 use Rattle.mb_frames.specs.Held.{AreIn, HeldValue}
@@ -29,7 +28,7 @@ use Rattle.mb_frames.specs.declared.task.Outcome.{Outcome}
 use Rattle.mb_frames.specs.declared.task.Outcome.TheVariants as o
 use Rattle.mb_model.specs.Engine.{Gives}
 use Rattle.mb_model.specs.Meaning.{Ends}
-use Rattle.mb_model.specs.Story.{thrown_text, turn_ended, with_uncaught}
+use Rattle.mb_model.specs.Story.{TurnOf, job_ends, take_turn, thrown_text, turn_ended, with_uncaught}
 use Rattle.mb_model.specs.Story as story
 use Rattle.mb_model.specs.Task as model
 use Rattle.mb_world.proofs.AfterCalls.{of-queue}
@@ -69,8 +68,8 @@ pub job-ended : (m : Machine) (d : Data) (f : ℕ) (l l' : Written) (log : List 
     → Reached m d f l l' log e → m.stack.items ≡ [] → m.done ≡ Some outcome → JobEnds (Ok outcome) d f l l' log e
 job-ended m d f l l' log e outcome h is done = (
   Image d (log ++ h.added),
-  sym h.rest ∙ ap (λ (ys : List Waiting). stack_gives now d ys m.done (Image d (log ++ h.added)) f) is
-      ∙ ap (λ y. stack_gives now d [] y (Image d (log ++ h.added)) f) done,
+  sym h.rest ∙ ap (λ (ys : List Waiting). stack_gives meant d ys m.done (Image d (log ++ h.added)) f) is
+      ∙ ap (λ y. stack_gives meant d [] y (Image d (log ++ h.added)) f) done,
   record { added = h.added; image = refl; told = h.told },
 )
 
@@ -134,8 +133,8 @@ jobs-are (i ∷ q) j e = let k : i ≡ j = cc in rw k refl
 
 pub job-taken : (d : Data) (side : Side) (j : Job) (f : ℕ) (log : List Item) → side.0 < d.sides
     → slice_get (queue_of d side) 0 ≡ Some j
-    → TurnBy interim (Image d log) side.0 f
-    ≡ turn_ended side.0 (job_ends_by interim side.0 (job_in (names_of d) j)
+    → TurnOf (Image d log) side.0 f
+    ≡ turn_ended side.0 (job_ends side.0 (job_in (names_of d) j)
     (Image (with_queue d side (drop 1 (queue_of d side))) log) f)
 job-taken d side j f log i e =
     let q : List Job = queue_of d side in
@@ -144,14 +143,14 @@ job-taken d side j f log i e =
     = slice_get-map (map (job_in (names_of d))) (take d.sides d.queues) side.0
     ∙ ap (option_map (map (job_in (names_of d)))) (queue-is d.queues d.sides side.0 j i e)
     ∙ ap (λ (z : List Job). Some (map (job_in (names_of d)) z)) (jobs-are q j e) in
-    ap (take_turn_by interim (Image d log) side.0 f) a
-    ∙ ap (λ (g : Graph). turn_ended side.0 (job_ends_by interim side.0 (job_in (names_of d) j) g f))
+    ap (take_turn (Image d log) side.0 f) a
+    ∙ ap (λ (g : Graph). turn_ended side.0 (job_ends side.0 (job_in (names_of d) j) g f))
     (sym ((of-queue d side (drop 1 q)).image log))
 
 -- ---- an empty queue
 
 idle-at : (g : Graph) (s f : ℕ) (F : Job → graph.Job) (qs : List (List Job)) (n i : ℕ) → slice_index_or qs i [] ≡ []
-    → take_turn_by interim g s f (slice_get (map (map F) (take n qs)) i) ≡ story.Idle
+    → take_turn g s f (slice_get (map (map F) (take n qs)) i) ≡ story.Idle
 idle-at g s f F [] zero i e = refl
 idle-at g s f F [] (suc n) i e = refl
 idle-at g s f F (q ∷ qs) zero i e = refl
@@ -159,7 +158,7 @@ idle-at g s f F (q ∷ qs) (suc n) zero e = rw e refl
 idle-at g s f F (q ∷ qs) (suc n) (suc i) e = idle-at g s f F qs n i e
 
 pub idle-turn : (d : Data) (side : Side) (f : ℕ) (log : List Item) → queue_of d side ≡ []
-    → TurnBy interim (Image d log) side.0 f ≡ story.Idle
+    → TurnOf (Image d log) side.0 f ≡ story.Idle
 idle-turn d side f log e = idle-at (Image d log) side.0 f (job_in (names_of d)) d.queues d.sides side.0 e
 
 set-idle : (qs : List (List Job)) (i : ℕ) → slice_index_or qs i [] ≡ []

@@ -2,7 +2,7 @@
 use Rattle.mb_base.specs.declared.value.Side.{Side}
 use Rattle.mb_base.specs.declared.value.Value.{Value}
 use Rattle.mb_base.specs.declared.value.Value.TheVariants as v
-use Rattle.mb_engine.specs.Begun.{HasRoot, HasScript, IsBegun, IsGiven, IsWhole, first_graph_of}
+use Rattle.mb_engine.specs.Begun.{HasScript, IsBegun, IsGiven, first_graph_of}
 use Rattle.mb_engine.specs.machine.Beginning.{Begins, IsSet, scripts_in, set_world, started, with_scripts}
 use Rattle.mb_frames.specs.Grammatical.{IsProgram}
 use Rattle.mb_frames.specs.Standing.{forms_at}
@@ -10,6 +10,7 @@ use Rattle.mb_growth.specs.Names.{HasGlobals}
 use Rattle.mb_intrinsics.specs.Untouched.{IsUntouched, programs_in, rules_in}
 use Rattle.mb_model.specs.Nodes.Scopes.{scope}
 use Rattle.mb_model.specs.Story.{first_graph, global_bindings, global_scopes}
+use Rattle.mb_programs.specs.Read.{HasWhole, IsWhole}
 use Rattle.mb_world.proofs.Grow.{All-at}
 use Rattle.mb_world.specs.Data.{Data, Script, fresh, with_texts}
 use Rattle.mb_world.specs.Graph.{Graph, Program}
@@ -20,9 +21,12 @@ use Rattle.mb_world.specs.declared.rule.RuleKind.{RuleKind}
 use Rattle.mb_world.specs.declared.rule.RuleKind.TheVariants as rule
 use Rattle.mb_world.specs.declared.scope.Job.{Job}
 use Rattle.mb_world.specs.declared.scope.Job.TheVariants as j
-use Rattle.std.proofs.Common.{Bool, List, None, Option, Some, [], ap, arith, false, length, map, option_map, refl, slice_get, slice_index_or, subst, suc, sym, take, true, zero, ℕ, ◌+◌, ◌++◌, ◌<◌, ◌≤◌, ◌∙◌, ◌∷◌, ◌≡◌}
+use Rattle.std.proofs.Common.{Bool, List, None, Option, Some, [], ap, arith, false, length, map, option_map, refl}
+use Rattle.std.proofs.Common.{slice_get, slice_index_or, subst, suc, sym, take, true, zero, ℕ, ◌+◌, ◌++◌, ◌<◌, ◌≤◌}
+use Rattle.std.proofs.Common.{◌∙◌, ◌∷◌, ◌≡◌}
 use Rattle.std.proofs.lemmas.List.{length-map}
-use Rattle.std.proofs.lemmas.List.Elements.{All-append, All-cons, All-from_recursion, All-head, All-nil, All-tail, All-weaker}
+use Rattle.std.proofs.lemmas.List.Elements.{All-append, All-cons, All-from_recursion, All-head, All-nil, All-tail}
+use Rattle.std.proofs.lemmas.List.Elements.{All-weaker}
 use Rattle.std.proofs.lemmas.Option.{slice_get-map}
 use Rattle.std.specs.List.{AllByRecursion}
 use Rattle.std.specs.Prelude.{All, IsSomeAnd}
@@ -102,7 +106,8 @@ module _ (texts : List (List ℕ)) (ss : List Script) (rules : List Rule) (joine
     cells = refl;
     symbols = refl;
     revoked = refl;
-    jobs = jobs-are ss fresh.queues fresh.programs (refl, (refl, (refl, (refl, (refl, (refl, (refl, (refl, tt)))))))) refl;
+    jobs = jobs-are ss fresh.queues fresh.programs
+        (refl, (refl, (refl, (refl, (refl, (refl, (refl, (refl, tt)))))))) refl;
     many = ap (λ (ps : List (Option Script)). length ps) taken ∙ length-map ss (λ s. Some s);
   }
 
@@ -130,7 +135,7 @@ module _ (texts : List (List ℕ)) (ss : List Script) (rules : List Rule) (joine
     program-at (suc m) (suc k) f (p ∷ ps) x e = program-at m k f ps x e
 
     root-at : (k : ℕ) (xs : List Script) → k < length xs → All (IsWhole texts) xs
-        → IsSomeAnd (slice_get (map (λ p. program_in texts (Some p)) xs) k) (λ p. HasRoot p.forms)
+        → IsSomeAnd (slice_get (map (λ p. program_in texts (Some p)) xs) k) (λ p. HasWhole p.forms)
     root-at k [] l h = absurd (omega (arith, l))
     root-at zero (x ∷ xs) l h = All-head (IsWhole texts) x xs h
     root-at (suc k) (x ∷ xs) l h = root-at k xs (omega (arith, l)) (All-tail (IsWhole texts) x xs h)
@@ -141,12 +146,12 @@ module _ (texts : List (List ℕ)) (ss : List Script) (rules : List Rule) (joine
         (root-at side.0 ss (subst (λ (m : ℕ). side.0 < m) b.sides l) given.roots)
       where
         by : (o : Option Program) → slice_get (map (λ p. program_in texts (Some p)) ss) side.0 ≡ o
-            → IsSomeAnd o (λ p. HasRoot p.forms) → HasScript d' side
+            → IsSomeAnd o (λ p. HasWhole p.forms) → HasScript d' side
         by None e h = absurd h
         by (Some p) e h =
             let at : slice_get (map (program_in d'.texts) (take d'.sides d'.programs)) side.0 ≡ Some p =
             ap (λ (g : Graph). slice_get g.programs side.0) image-is ∙ e in
-            subst (λ (q : Program). HasRoot q.forms)
+            subst (λ (q : Program). HasWhole q.forms)
             (sym (program-at d'.sides side.0 (program_in d'.texts) d'.programs p at)) h
 
     scope-at : (s m : ℕ) (ps : List Program) (k : ℕ) → k < length ps → s + k ≡ m

@@ -1,8 +1,8 @@
 -- The scopes of the built-in names, in a world, and after a turn.
-use Rattle.std.proofs.Common.{◌≡◌, ◌≢◌, ◌<◌, ◌++◌, ◌∷◌, Bool, IsSomeAnd, List, None, Some, [], ap, false, if◌then◌else◌, map, refl, slice_get, subst, suc, sym, true, zero, ℕ, ◌∙◌}
+use Rattle.std.proofs.Common.{Bool, IsSomeAnd, List, None, Some, [], ap, false, map, refl, slice_get, subst, suc, true}
+use Rattle.std.proofs.Common.{zero, ℕ, ◌<◌, ◌∷◌, ◌≡◌, ◌≢◌}
 use Rattle.mb_base.specs.declared.value.Side.{Side}
 use Rattle.mb_engine.specs.Begun.{global_scope}
-use Rattle.mb_engine.specs.Interim.{has_steps, interim, job_ends_by}
 use Rattle.mb_engine.specs.Turns.{Left, Turns, halts}
 use Rattle.mb_engine.specs.declared.turns.TurnEnd.{TurnEnd}
 use Rattle.mb_engine.specs.declared.turns.TurnEnd.TheVariants.{Ended, Idle, NoMemory, Spent, Uncaught}
@@ -10,20 +10,17 @@ use Rattle.mb_frames.specs.Stepping.{Written}
 use Rattle.mb_growth.proofs.Names.{end-keeps, globals-last, naming, plainly}
 use Rattle.mb_growth.specs.Names.{HasGlobals}
 use Rattle.mb_model.proofs.Kept.Lasting.{scopes-refl}
-use Rattle.mb_model.proofs.Kept.Rows.{RowsHold, given-holds-by, means-holds-by, row-holds, whole}
-use Rattle.mb_model.proofs.Kept.Words.{Along, Fitted, Holds, keeps-type_error}
+use Rattle.mb_model.proofs.Kept.Rows.{given-holds, means-holds}
 use Rattle.mb_model.specs.Engine.{Gives, Spent as SpentEnd, state_of}
-use Rattle.mb_model.specs.Meaning.{Ends, finished, row}
+use Rattle.mb_model.specs.Meaning.{Ends}
 use Rattle.mb_model.specs.Nodes.Scopes.{scope}
 use Rattle.mb_model.specs.Story as story
-use Rattle.mb_model.specs.Story.{global_bindings, turn_ended}
-use Rattle.mb_model.specs.Task.{Access, Break, Chain, Continue, Enter, Evaluate, Loop, Normal, Perform, Return, Run, Task, Throw, Visit, Walk}
-use Rattle.mb_model.specs.Writing.{Row, type_error}
+use Rattle.mb_model.specs.Story.{global_bindings, job_ends, turn_ended}
+use Rattle.mb_model.specs.Task.{Break, Continue, Normal, Return, Throw}
 use Rattle.mb_world.specs.Contained.{scope_home}
 use Rattle.mb_world.specs.Data.{Data}
 use Rattle.mb_world.specs.Graph.{Call as CallJob, Graph, Item, Job, Scope, Script}
 use Rattle.mb_world.specs.Image.{Image, Names, names_of, scope_in}
-use Rattle.mb_world.specs.Intrinsics.{intrinsic}
 use Rattle.mb_world.specs.declared.scope.Scope.{Scope as WorldScope}
 
 -- ---- whose they are
@@ -42,35 +39,16 @@ scope-begun d has side inside = home-at (names_of d) side side.0 d.scopes (has s
 
 -- ---- along a job
 
-if-holds : (b : Graph) (c : Bool) (p q : Graph → Row) → Holds naming b (p b) → Holds naming b (q b)
-    → Holds naming b ((if c then p else q) b)
-if-holds b true p q h k = h
-if-holds b false p q h k = k
-
-interim-holds : RowsHold naming interim
-interim-holds (Run s p this vs target) g fit a =
-    if-holds g (has_steps (intrinsic p)) (row (Run s p this vs target)) (type_error s finished)
-    (row-holds naming plainly (Run s p this vs target) g fit a)
-    (whole naming g (type_error s) plainly.owes ((keeps-type_error naming s).goes g) a)
-interim-holds (Evaluate s n sc this) g fit a = row-holds naming plainly (Evaluate s n sc this) g fit a
-interim-holds (Loop s n sc this) g fit a = row-holds naming plainly (Loop s n sc this) g fit a
-interim-holds (Chain s x p) g fit a = row-holds naming plainly (Chain s x p) g fit a
-interim-holds (Walk o p x) g fit a = row-holds naming plainly (Walk o p x) g fit a
-interim-holds (Perform s m o v enters) g fit a = row-holds naming plainly (Perform s m o v enters) g fit a
-interim-holds (Enter f this vs) g fit a = row-holds naming plainly (Enter f this vs) g fit a
-interim-holds (Access s p c r) g fit a = row-holds naming plainly (Access s p c r) g fit a
-interim-holds (Visit s p c f this n) g fit a = row-holds naming plainly (Visit s p c f this n) g fit a
-
 job-globals : (sides s : ℕ) (j : Job) (g : Graph) (f : ℕ) → HasGlobals sides g
-    → HasGlobals sides (state_of (job_ends_by interim s j g f))
+    → HasGlobals sides (state_of (job_ends s j g f))
 job-globals sides s Script g f has =
-    globals-last sides g (state_of (job_ends_by interim s Script g f)) (end-keeps g (job_ends_by interim s Script g f)
-    (given-holds-by naming plainly interim interim-holds _ g f (λ c. absurd c, λ c. absurd c) (scopes-refl g.scopes)))
+    globals-last sides g (state_of (job_ends s Script g f)) (end-keeps g (job_ends s Script g f)
+    (given-holds naming plainly _ g f (λ c. absurd c, λ c. absurd c) (scopes-refl g.scopes)))
     has
 job-globals sides s (CallJob v) g f has =
-    globals-last sides g (state_of (job_ends_by interim s (CallJob v) g f))
-    (end-keeps g (job_ends_by interim s (CallJob v) g f)
-    (means-holds-by naming plainly interim interim-holds _ g f (λ c. absurd c, λ c. absurd c) (scopes-refl g.scopes)))
+    globals-last sides g (state_of (job_ends s (CallJob v) g f))
+    (end-keeps g (job_ends s (CallJob v) g f)
+    (means-holds naming plainly _ g f (λ c. absurd c, λ c. absurd c) (scopes-refl g.scopes)))
     has
 
 -- ---- after a turn
@@ -89,8 +67,8 @@ ended-has sides s (Gives Break g f) h = h
 ended-has sides s (Gives Continue g f) h = h
 ended-has sides s (SpentEnd g f) h = h
 
-left-has : (sides : ℕ) (d' : Data) (l l' : Written) (log : List Item) (g : Graph) → Left d' l l' log g → HasGlobals sides g
-    → HasGlobals sides (Image d' [])
+left-has : (sides : ℕ) (d' : Data) (l l' : Written) (log : List Item) (g : Graph) → Left d' l l' log g
+    → HasGlobals sides g → HasGlobals sides (Image d' [])
 left-has sides d' l l' log g left h = subst (HasGlobals sides) left.image h
 
 turned-has : (sides : ℕ) (end : TurnEnd) (d' : Data) (f' : ℕ) (l l' : Written) (log : List Item) (t : story.TurnEnd)
@@ -106,8 +84,8 @@ turned-has sides NoMemory d' f' l l' log t p worked on h = absurd (let bad : tru
 
 pub turn-globals : (sides s : ℕ) (j : Job) (d d' : Data) (f f' : ℕ) (l l' : Written) (log : List Item) (end : TurnEnd)
     → HasGlobals sides (Image d [])
-    → Turns end d' f' l l' log (turn_ended s (job_ends_by interim s j (Image d log) f)) → end ≢ Idle → halts end ≡ false
+    → Turns end d' f' l l' log (turn_ended s (job_ends s j (Image d log) f)) → end ≢ Idle → halts end ≡ false
     → HasGlobals sides (Image d' [])
 turn-globals sides s j d d' f f' l l' log end has p worked on =
     turned-has sides end d' f' l l' log _ p worked on
-    (ended-has sides s (job_ends_by interim s j (Image d log) f) (job-globals sides s j (Image d log) f has))
+    (ended-has sides s (job_ends s j (Image d log) f) (job-globals sides s j (Image d log) f has))

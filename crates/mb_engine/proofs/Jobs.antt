@@ -8,8 +8,7 @@ use Rattle.mb_base.specs.declared.value.Side.{Side}
 use Rattle.mb_base.specs.declared.value.Value.TheVariants as v
 use Rattle.mb_engine.proofs.Globals.{scope-begun}
 use Rattle.mb_engine.specs.Begun.{HasScript, IsBegun, global_scope}
-use Rattle.mb_engine.specs.Interim.{interim, job_ends_by}
-use Rattle.mb_engine.specs.machine.Advancing.{now}
+use Rattle.mb_engine.specs.machine.Advancing.{meant}
 use Rattle.mb_engine.specs.machine.Starting.{Begins, call_frame, root, script_frame}
 use Rattle.mb_frames.proofs.AfterCalls.{queue-all}
 use Rattle.mb_frames.proofs.HeldCells.{jobs-held}
@@ -31,7 +30,8 @@ use Rattle.mb_frames.specs.declared.machine.Machine.{Machine}
 use Rattle.mb_frames.specs.declared.machine.Waiting.{Waiting}
 use Rattle.mb_growth.specs.Names.{HasGlobals}
 use Rattle.mb_model.specs.Engine.{given}
-use Rattle.mb_model.specs.Story.{last_form}
+use Rattle.mb_model.specs.Meaning.{row}
+use Rattle.mb_model.specs.Story.{job_ends, last_form}
 use Rattle.mb_model.specs.Task.{Evaluate, Normal, Nothing}
 use Rattle.mb_world.proofs.Grow.{All-at}
 use Rattle.mb_world.specs.Contained.{IsOwn, in_job}
@@ -86,11 +86,11 @@ module _ (d : Data) (side : Side) (y : Frame) (m : Machine) (is : m.stack.items 
     };
   }
 
-  pub starting-rest : (f : ℕ) (log : List Item) → RestBy now m d f log
-      ≡ frame_gives now (names_of d) (forms_at d side) side.0 y (Normal Nothing) (Image d log) f
+  pub starting-rest : (f : ℕ) (log : List Item) → RestBy meant m d f log
+      ≡ frame_gives meant (names_of d) (forms_at d side) side.0 y (Normal Nothing) (Image d log) f
   starting-rest f log =
-      ap (λ (ys : List Waiting). stack_gives now d ys m.done (Image d log) f) is
-      ∙ ap (λ e. stack_gives now d (at_home side y ∷ []) e (Image d log) f) done
+      ap (λ (ys : List Waiting). stack_gives meant d ys m.done (Image d log) f) is
+      ∙ ap (λ e. stack_gives meant d (at_home side y ∷ []) e (Image d log) f) done
 
 -- ---- the frame of a job
 
@@ -112,7 +112,7 @@ module _ (d : Data) (side : Side) (b : IsBegun d) (inside : side.0 < d.sides) wh
   script-held : Holds d side (frame_held (script_frame d side))
   script-held =
       let s : HasScript d side = b.scripts side inside in
-      let e : is_evaluated (slice_get (forms_at d side) (root d side).0) ≡ true = rw s.root refl in (
+      let e : is_evaluated (slice_get (forms_at d side) (root d side).0) ≡ true = rw s.last refl in (
         record {
           within = some-in (λ k. k.home ≡ side) d.scopes side.0 (scope-begun d b.globals side inside);
           sound = scope-begun d b.globals side inside;
@@ -155,10 +155,10 @@ module _ (d : Data) (side : Side) (b : IsBegun d) (inside : side.0 < d.sides) wh
   job-starts (j.Call (v.Symbol z)) y e = absurd e
 
   pub job-gives : (job : Job) (y : Frame) → Begins d side job y → (f : ℕ) (log : List Item)
-      → frame_gives now (names_of d) (forms_at d side) side.0 y (Normal Nothing) (Image d log) f
-      ≡ job_ends_by interim side.0 (job_in (names_of d) job) (Image d log) f
+      → frame_gives meant (names_of d) (forms_at d side) side.0 y (Normal Nothing) (Image d log) f
+      ≡ job_ends side.0 (job_in (names_of d) job) (Image d log) f
   job-gives j.Script y e f log =
-      rw e (ap (λ (n : ℕ). given interim (Evaluate side.0 n side.0 Undefined) (Image d log) f)
+      rw e (ap (λ (n : ℕ). given row (Evaluate side.0 n side.0 Undefined) (Image d log) f)
       (sym (root-at d.texts d.programs side.0 d.sides inside)))
   job-gives (j.Call (v.Object object)) y e f log = rw e refl
   job-gives (j.Call v.Undefined) y e f log = absurd e
@@ -177,7 +177,7 @@ begun-stays d d' b r s has = record {
   scripts = λ side i.
       let h : HasScript d side = b.scripts side (rw (← s.grew.sides) i) in
       let e : forms_at d' side ≡ forms_at d side = forms-grow d d' b.ready.ids s.grew side in
-      record { statements = h.statements; root = rw e h.root; few = rw e h.few };
+      record { statements = h.statements; last = rw e h.last; few = rw e h.few };
   globals = rw s.grew.sides has;
 }
 

@@ -1,8 +1,6 @@
 pub mod Rows
 pub mod Places
 pub mod Stepping
-pub mod Waits
-pub mod Thrown
 pub mod Reaching
 pub mod Globals
 pub mod Jobs

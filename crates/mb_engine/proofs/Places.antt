@@ -1,11 +1,12 @@
--- The places of the built-ins that have steps, by their table.
+-- Whose the built-ins are, by their places in the table.
 use Rattle.std.proofs.Common.{Bool, None, Option, ap, arith, false, nat_eq, nat_le, nat_lt, not, refl, suc, sym, true}
 use Rattle.std.proofs.Common.{true≢false, zero, ℕ, ◌&&◌, ◌<◌, ◌||◌, ◌∙◌, ◌≡◌, ◌≤◌}
 use Rattle.std.proofs.lemmas.Bool.Decides.{nat_tests}
 use Rattle.std.proofs.lemmas.Option.{slice_get_past}
-use Rattle.mb_engine.specs.Interim.{has_steps}
-use Rattle.mb_engine.specs.machine.Owning.{basic_place, is_within, reflect_place}
+use Rattle.mb_engine.specs.machine.Owning.{array_place, basic_place, is_within, proxy_place, reflect_place}
 use Rattle.mb_intrinsics.specs.Ours.{is_basic}
+use Rattle.mb_arrayapi.specs.Ours.{is_of_arrays}
+use Rattle.mb_scriptproxy.specs.Ours.{makes_proxies}
 use Rattle.mb_reflect.specs.Ours.{is_reflecting}
 use Rattle.mb_world.specs.Intrinsics.{intrinsic, intrinsics}
 
@@ -98,11 +99,55 @@ reflect-is n = by (nat_lt n 80) refl
         (holds-below 80 reflect-test reflects-below n (grind (arith, nat_tests, e)))
     by false e = reflect-past n (grind (arith, nat_tests, e))
 
-or-false : (a b : Bool) → a ≡ false → b ≡ false → a || b ≡ false
-or-false true b h k = h
-or-false false b h k = k
+-- ---- those of Array and Array.prototype
 
--- one that is neither has no steps
-pub neither : (n : ℕ) → is_basic (intrinsic n) ≡ false → is_reflecting (intrinsic n) ≡ false
-    → has_steps (intrinsic n) ≡ false
-neither n h k = or-false (is_basic (intrinsic n)) (is_reflecting (intrinsic n)) h k
+array-test : ℕ → Bool
+array-test n = same-bool (array_place n) (is_of_arrays (intrinsic n))
+
+arrays-below : all-below 80 array-test ≡ true
+unfolding all-below array-test same-bool
+arrays-below = refl
+
+array-past : (n : ℕ) → 80 ≤ n → array_place n ≡ is_of_arrays (intrinsic n)
+array-past n h =
+    let e : intrinsic n ≡ None = slice_get_past intrinsics n h in
+    let a : nat_eq n 4 ≡ false = grind (arith, nat_tests, h) in
+    let k : nat_le n 34 ≡ false = grind (arith, nat_tests, h) in
+    let p : nat_le 24 n ≡ true = grind (arith, nat_tests, h) in
+    rw (e, a, k, p) refl
+
+pub array-is : (n : ℕ) → array_place n ≡ is_of_arrays (intrinsic n)
+unfolding array-test
+array-is n = by (nat_lt n 80) refl
+  where
+    by : (b : Bool) → nat_lt n 80 ≡ b → array_place n ≡ is_of_arrays (intrinsic n)
+    by true e =
+        bools-same (array_place n) (is_of_arrays (intrinsic n))
+        (holds-below 80 array-test arrays-below n (grind (arith, nat_tests, e)))
+    by false e = array-past n (grind (arith, nat_tests, e))
+
+-- ---- those of Proxy
+
+proxy-test : ℕ → Bool
+proxy-test n = same-bool (proxy_place n) (makes_proxies (intrinsic n))
+
+proxies-below : all-below 80 proxy-test ≡ true
+unfolding all-below proxy-test same-bool
+proxies-below = refl
+
+proxy-past : (n : ℕ) → 80 ≤ n → proxy_place n ≡ makes_proxies (intrinsic n)
+proxy-past n h =
+    let e : intrinsic n ≡ None = slice_get_past intrinsics n h in
+    let a : nat_eq n 6 ≡ false = grind (arith, nat_tests, h) in
+    let b : nat_eq n 48 ≡ false = grind (arith, nat_tests, h) in
+    rw (e, a, b) refl
+
+pub proxy-is : (n : ℕ) → proxy_place n ≡ makes_proxies (intrinsic n)
+unfolding proxy-test
+proxy-is n = by (nat_lt n 80) refl
+  where
+    by : (b : Bool) → nat_lt n 80 ≡ b → proxy_place n ≡ makes_proxies (intrinsic n)
+    by true e =
+        bools-same (proxy_place n) (makes_proxies (intrinsic n))
+        (holds-below 80 proxy-test proxies-below n (grind (arith, nat_tests, e)))
+    by false e = proxy-past n (grind (arith, nat_tests, e))

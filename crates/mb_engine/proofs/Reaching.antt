@@ -2,7 +2,7 @@
 use Rattle.std.proofs.Common.{Bool, Err, List, [], ap, append_assoc, append-nil, arith, length, refl, subst, sym, ℕ}
 use Rattle.std.proofs.Common.{◌++◌, ◌∙◌, ◌∷◌, ◌≡◌, ◌≤◌}
 use Rattle.mb_engine.specs.Turns.{IsTold, lines_made}
-use Rattle.mb_engine.specs.machine.Advancing.{Advanced, Advances, Reached, Reaches, now}
+use Rattle.mb_engine.specs.machine.Advancing.{Advanced, Advances, Reached, Reaches, meant}
 use Rattle.mb_frames.proofs.Steps.{Logged-added}
 use Rattle.mb_frames.specs.Standing.{Logged, RestBy}
 use Rattle.mb_frames.specs.Stepping.{Added, Written}
@@ -76,11 +76,11 @@ told-then d d' l l1 l' log a b h k = record {
 -- ---- steps
 
 pub reached-none : (m : Machine) (d : Data) (f : ℕ) (l : Written) (log : List Item) → Logged d log
-    → Reached m d f l l log (RestBy now m d f log)
+    → Reached m d f l l log (RestBy meant m d f log)
 reached-none m d f l log e = record {
   added = [];
   told = told-none d l log e;
-  rest = ap (RestBy now m d f) (append-nil log);
+  rest = ap (RestBy meant m d f) (append-nil log);
 }
 
 pub reached-step : (m m1 : Machine) (d d1 : Data) (f f1 : ℕ) (l l1 l2 : Written) (log : List Item) (e : Ends)
@@ -89,7 +89,7 @@ reached-step m m1 d d1 f f1 l l1 l2 log e h k = record {
   added = h.added ++ k.added;
   told = told-then d d1 l l1 l2 log h.added k.added h.told
       (told-step d d1 l1 l2 (log ++ h.added) k.added h.told.logged k.logged);
-  rest = ap (RestBy now m1 d1 f1) (sym (append_assoc log h.added k.added))
+  rest = ap (RestBy meant m1 d1 f1) (sym (append_assoc log h.added k.added))
       ∙ k.rest (log ++ h.added) h.told.logged ∙ h.rest;
 }
 

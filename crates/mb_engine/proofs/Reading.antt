@@ -1,9 +1,9 @@
 -- Scripts that were read are what a run is given.
-use Rattle.mb_engine.specs.Begun.{IsGiven, IsWhole}
+use Rattle.mb_engine.specs.Begun.{IsGiven}
 use Rattle.mb_frames.specs.Grammatical.{IsProgram}
 use Rattle.mb_frames.specs.Ready.{HasItsConstant}
 use Rattle.mb_programs.proofs.Starting.{can-start}
-use Rattle.mb_programs.specs.Read.{CanStart, WasRead}
+use Rattle.mb_programs.specs.Read.{CanStart, IsWhole, WasRead}
 use Rattle.mb_world.specs.Data.{Script, fresh, with_texts}
 use Rattle.mb_world.specs.Ids.{RuleIn, ScriptIn}
 use Rattle.mb_world.specs.declared.rule.Rule.{Rule}
@@ -19,8 +19,7 @@ read-given texts ss rules joined read least most ids constants two none = record
   least = least;
   most = most;
   programs = All-weaker (CanStart texts) IsProgram (λ p s. s.program) ss can;
-  roots = All-weaker (CanStart texts) (IsWhole texts)
-      (λ p s. record { statements = s.whole.statements; root = s.whole.last; few = s.whole.few }) ss can;
+  roots = All-weaker (CanStart texts) (IsWhole texts) (λ p s. s.whole) ss can;
   script_ids = All-weaker (CanStart texts) (ScriptIn (with_texts fresh texts)) (λ p s. s.ids) ss can;
   rule_ids = ids;
   constants = constants;
@@ -37,5 +36,6 @@ pub two-given : (texts : List (List ℕ)) (p q : Script) → WasRead texts p →
 two-given texts p q h k =
     read-given texts (p ∷ q ∷ []) [] true
     (All-cons (WasRead texts) p (q ∷ []) h (All-cons (WasRead texts) q [] k (All-nil (WasRead texts))))
-    (omega arith) (omega arith) (All-nil (RuleIn (with_texts fresh texts))) (All-nil (λ (r : Rule). HasItsConstant r.kind))
+    (omega arith) (omega arith) (All-nil (RuleIn (with_texts fresh texts)))
+    (All-nil (λ (r : Rule). HasItsConstant r.kind))
     (λ e. refl) (λ e. refl)

@@ -5,7 +5,8 @@ use Rattle.mb_base.specs.declared.value.Side.{Side}
 use Rattle.mb_base.specs.declared.value.Value.{Value}
 use Rattle.mb_base.specs.declared.value.Value.TheVariants as v
 use Rattle.mb_engine.proofs.Desk.{desk-in}
-use Rattle.mb_engine.specs.machine.Beginning.{AddsScope, AddsScopes, Crosses, IsDesk, Remains, first_scopes, with_global_scope}
+use Rattle.mb_engine.specs.machine.Beginning.{AddsScope, AddsScopes, Crosses, IsDesk, Remains, first_scopes}
+use Rattle.mb_engine.specs.machine.Beginning.{with_global_scope}
 use Rattle.mb_frames.specs.Held.{HeldValue}
 use Rattle.mb_frames.specs.Ready.{Changed, IsReady, MayHold}
 use Rattle.mb_intrinsics.proofs.Bound.{names-become, names-changed}
@@ -18,7 +19,8 @@ use Rattle.mb_world.specs.Image.{Image, Resolve, names_of, scope_in}
 use Rattle.mb_world.specs.Laws.{Becomes}
 use Rattle.mb_world.specs.Value.{Object, Val}
 use Rattle.mb_world.specs.declared.scope.Scope.{Scope as WorldScope}
-use Rattle.std.proofs.Common.{Err, List, None, Ok, OnErr, OnOk, Result, [], add-one, ap, arith, length, map, refl, subst, suc, sym, zero, ℕ, ◌+◌, ◌++◌, ◌<◌, ◌∙◌, ◌∷◌, ◌≡◌}
+use Rattle.std.proofs.Common.{Err, List, None, Ok, OnErr, OnOk, Result, [], add-one, ap, arith, length, map, refl}
+use Rattle.std.proofs.Common.{subst, suc, sym, zero, ℕ, ◌+◌, ◌++◌, ◌<◌, ◌∙◌, ◌∷◌, ◌≡◌}
 
 pub remains-then : (a b c : Data) → Remains a b → Remains b c → Remains a c
 remains-then a b c h k = record {

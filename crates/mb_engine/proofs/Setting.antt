@@ -8,7 +8,8 @@ use Rattle.mb_world.specs.Data.{Data, Script, queue_of, script_of, with_program,
 use Rattle.mb_world.specs.Ids.{ScriptIn}
 use Rattle.mb_world.specs.declared.scope.Job.{Job}
 use Rattle.mb_world.specs.declared.scope.Job.TheVariants as j
-use Rattle.std.proofs.Common.{List, Option, Some, [], add-one, ap, arith, length, map, refl, slice_index_or, slice_set, subst, suc, sym, zero, ℕ, ◌+◌, ◌++◌, ◌<◌, ◌≤◌, ◌∙◌, ◌∷◌, ◌≡◌}
+use Rattle.std.proofs.Common.{List, Option, Some, [], add-one, ap, arith, length, map, refl, slice_index_or}
+use Rattle.std.proofs.Common.{slice_set, subst, suc, sym, zero, ℕ, ◌+◌, ◌++◌, ◌<◌, ◌≤◌, ◌∙◌, ◌∷◌, ◌≡◌}
 use Rattle.std.proofs.lemmas.List.{length-append, length-map}
 use Rattle.std.proofs.lemmas.List.Elements.{All-head}
 use Rattle.std.specs.Prelude.{All}

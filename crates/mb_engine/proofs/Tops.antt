@@ -2,8 +2,8 @@
 use Rattle.std.proofs.Common.{List, Some, [], arith, length, refl, slice_get, subst, suc, zero, ℕ, ◌-◌, ◌<◌, ◌∷◌, ◌≡◌}
 use Rattle.std.specs.List.{AllByRecursion}
 use Rattle.mb_engine.specs.declared.owners.Owner.{Owner}
-use Rattle.mb_engine.specs.declared.owners.Owner.TheVariants.{Calls, Expressions, Intrinsics, Missing, Nobody, Reflecting}
-use Rattle.mb_engine.specs.declared.owners.Owner.TheVariants.{Statements}
+use Rattle.mb_engine.specs.declared.owners.Owner.TheVariants.{Arrays, Calls, Expressions, Intrinsics, Nobody, Proxies}
+use Rattle.mb_engine.specs.declared.owners.Owner.TheVariants.{Reflecting, Statements}
 use Rattle.mb_engine.specs.machine.Owning.{Belongs, IsTopOf}
 use Rattle.mb_frames.specs.Held.{AreIn}
 use Rattle.mb_frames.specs.Holding.{FrameIn, frame_held}
@@ -56,4 +56,5 @@ owns-top d Statements stack y e h = on-last (Belongs d Statements) stack y _ ref
 owns-top d Calls stack y e h = on-last (Belongs d Calls) stack y _ refl e h
 owns-top d Intrinsics stack y e h = on-last (Belongs d Intrinsics) stack y _ refl e h
 owns-top d Reflecting stack y e h = on-last (Belongs d Reflecting) stack y _ refl e h
-owns-top d Missing stack y e h = on-last (Belongs d Missing) stack y _ refl e h
+owns-top d Arrays stack y e h = on-last (Belongs d Arrays) stack y _ refl e h
+owns-top d Proxies stack y e h = on-last (Belongs d Proxies) stack y _ refl e h

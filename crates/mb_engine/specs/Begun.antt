@@ -1,5 +1,5 @@
 -- A world between turns.
-use Rattle.std.specs.Prelude.{All, Bool, List, Some, [], length, map, slice_get, true, ℕ, ◌-◌, ◌<◌, ◌^◌, ◌≡◌, ◌≤◌}
+use Rattle.std.specs.Prelude.{All, Bool, List, Some, [], length, map, true, ◌<◌, ◌≡◌, ◌≤◌, ℕ}
 use Rattle.mb_base.specs.declared.value.ScopeId.{ScopeId}
 use Rattle.mb_base.specs.declared.value.Side.{Side}
 use Rattle.mb_frames.specs.Grammatical.{IsProgram}
@@ -7,8 +7,8 @@ use Rattle.mb_frames.specs.Ready.{HasItsConstant, IsReady}
 use Rattle.mb_frames.specs.Standing.{forms_at}
 use Rattle.mb_growth.specs.Names.{HasGlobals}
 use Rattle.mb_model.specs.Story.{first_graph}
+use Rattle.mb_programs.specs.Read.{HasWhole, IsWhole}
 use Rattle.mb_world.specs.Data.{Data, Script, fresh, with_texts}
-use Rattle.mb_world.specs.Form.{Form, ScriptForm}
 use Rattle.mb_world.specs.Graph.{Graph}
 use Rattle.mb_world.specs.Ids.{RuleIn, ScriptIn}
 use Rattle.mb_world.specs.Image.{Image, names_of, program_in, rule_in}
@@ -18,17 +18,8 @@ use Rattle.mb_world.specs.declared.rule.Rule.{Rule}
 abbrev pub global_scope : Side → ScopeId
 global_scope side = record { 0 = side.0 }
 
--- the last of these nodes is the whole script, and there are fewer than 2^32
-pub record HasRoot (forms : List Form) : Type 0 where
-  pub statements : List ℕ
-  pub root : slice_get forms (length forms - 1) ≡ Some (ScriptForm statements)
-  pub few : length forms < 2 ^ 32
-
 abbrev pub HasScript : Data → Side → Type 0
-HasScript d side = HasRoot (forms_at d side)
-
-abbrev pub IsWhole : List (List ℕ) → Script → Type 0
-IsWhole texts p = HasRoot (program_in texts (Some p)).forms
+HasScript d side = HasWhole (forms_at d side)
 
 -- a world that has begun: between the steps, with a script for each side, and its first scopes, one for each, bind the
 -- built-in names and `desk`

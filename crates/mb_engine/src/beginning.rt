@@ -1,7 +1,8 @@
 // The world before the first turn.
 ghost use Rattle.std.specs.Prelude.{◌≡◌, ◌≤◌, ◌<◌, [], All, IfOk, OnOk, is_err, length, map, true, false};
 ghost use Rattle.mb_engine.specs.Begun.{IsBegun, IsGiven, first_graph_of};
-ghost use Rattle.mb_engine.specs.machine.Beginning.{AddsScope, AddsScopes, Begins, Crosses, IsDesk, IsSet, with_scripts, with_started};
+ghost use Rattle.mb_engine.specs.machine.Beginning.{AddsScope, AddsScopes, Begins, Crosses, IsDesk, IsSet};
+ghost use Rattle.mb_engine.specs.machine.Beginning.{with_scripts, with_started};
 ghost use Rattle.mb_frames.specs.Held.{HeldValue};
 ghost use Rattle.mb_frames.specs.Ready.{IsReady, MayHold};
 ghost use Rattle.mb_intrinsics.specs.Untouched.{programs_in, rules_in};

@@ -3,11 +3,11 @@ ghost use Rattle.std.specs.Prelude.{◌≡◌, ◌≢◌, ◌<◌, ◌↔◌, []
 ghost use Rattle.std.specs.Prelude.{vec_capacity, vec_len};
 ghost use Rattle.mb_engine.specs.Begun.{IsBegun};
 ghost use Rattle.mb_engine.specs.Driving.{noted, noted_if, ran_of, tells};
-ghost use Rattle.mb_engine.specs.Interim.{TurnBy, interim};
 ghost use Rattle.mb_engine.specs.Turns.{AddsLines, Turns, halts};
 ghost use Rattle.mb_engine.specs.declared.drivers.Ran.{Ran as ARan};
 ghost use Rattle.mb_frames.specs.Standing.{Logged};
 ghost use Rattle.mb_frames.specs.Stepping.{written};
+ghost use Rattle.mb_model.specs.Story.{TurnOf};
 ghost use Rattle.mb_world.specs.Data.{queue_of};
 ghost use Rattle.mb_world.specs.Graph.{Item};
 ghost use Rattle.mb_world.specs.Image.{Image};
@@ -41,7 +41,7 @@ pub trait Driver {
 
         // the turn of the story, with exact units, lines and entries
         ensures turns { (log : List Item) → Logged w.old log → Turns result w.new fuel.new (written lines.old)
-            (written lines.new) log (TurnBy interim (Image w.old log) side.0 fuel.old) }
+            (written lines.new) log (TurnOf (Image w.old log) side.0 fuel.old) }
         ensures idle { result ≢ TurnEnd.NoMemory → (result ≡ TurnEnd.Idle) ↔ (queue_of w.old side ≡ []) }
         ensures rests { result ≡ TurnEnd.Idle →
             (w.new ≡ w.old) × (fuel.new ≡ fuel.old) × (written lines.new ≡ written lines.old) }

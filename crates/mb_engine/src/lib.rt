@@ -4,8 +4,6 @@
 mod advancing;
 mod beginning;
 mod drivers;
-mod laws;
-mod missing;
 mod owners;
 mod starting;
 #[cfg(test)]
@@ -15,5 +13,4 @@ mod uncaught;
 
 pub use beginning::begin;
 pub use drivers::{Driver, Noting, Ran, Straight};
-pub use laws::turns_by_the_meaning_are_the_storys;
 pub use turns::{TurnEnd, turn};

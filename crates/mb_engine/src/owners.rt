@@ -2,8 +2,8 @@
 ghost use Rattle.mb_base.specs.declared.value.Side.{Side as ASide};
 ghost use Rattle.mb_tree.specs.Seen.{seen};
 ghost use Rattle.mb_world.specs.Data.{Data};
-ghost use Rattle.mb_engine.specs.machine.Owning.{AnewBelongs, basic_place, BegunBelongs, Belongs, IsTopOf, is_within};
-ghost use Rattle.mb_engine.specs.machine.Owning.{OwnsEntry, OwnsForm, TaskBelongs, reflect_place};
+ghost use Rattle.mb_engine.specs.machine.Owning.{BegunBelongs, Belongs, IsTopOf, OwnsEntry, OwnsForm, TaskBelongs};
+ghost use Rattle.mb_engine.specs.machine.Owning.{array_place, basic_place, is_within, proxy_place, reflect_place};
 ghost use Rattle.mb_frames.specs.Held.{AreIn};
 ghost use Rattle.mb_frames.specs.Holding.{frame_held, task_held};
 ghost use Rattle.mb_frames.specs.Ready.{IsReadyMachine};
@@ -20,14 +20,16 @@ ghost use Rattle.mb_frames.specs.Told.{told_at};
 use mb_base::{NodeId, ObjId, Side};
 use mb_frames::{Frame, Machine, Task, form_at};
 use mb_intrinsics::places::{
-    ERROR, ERROR_PROTOTYPE, FUNCTION_PROTOTYPE_APPLY, LABELLED, LATER, OBJECT,
-    OBJECT_GET_OWN_PROPERTY_DESCRIPTOR, OBJECT_GET_OWN_PROPERTY_SYMBOLS, PRINT, REFLECT,
-    REFLECT_APPLY, REFLECT_SET_PROTOTYPE_OF, STRING, SYMBOL,
+    ARRAY, ARRAY_IS_ARRAY, ARRAY_PROTOTYPE, ERROR, ERROR_PROTOTYPE, FUNCTION_PROTOTYPE_APPLY,
+    LABELLED, LATER, OBJECT, OBJECT_GET_OWN_PROPERTY_DESCRIPTOR, OBJECT_GET_OWN_PROPERTY_SYMBOLS,
+    PRINT, PROXY, PROXY_REVOCABLE, REFLECT, REFLECT_APPLY, REFLECT_SET_PROTOTYPE_OF, STRING,
+    SYMBOL,
 };
 use mb_tree::Form;
 use mb_world::{CellKind, World};
 
-/// Who does the step of a frame: a step crate, this one for a built-in whose steps are missing, or nobody yet.
+/// Which step crate does the step of a frame. Nobody does those of collections yet, nor those of the membrane, which a
+/// joined world hasn't.
 #[derive(Clone, Copy, Debug, PartialEq, Eq)]
 pub(crate) enum Owner {
     Expressions,
@@ -35,7 +37,8 @@ pub(crate) enum Owner {
     Calls,
     Intrinsics,
     Reflecting,
-    Missing,
+    Arrays,
+    Proxies,
     Nobody,
 }
 
@@ -59,13 +62,16 @@ fn owner_of_frame(w: &World, home: Side, frame: &Frame) -> Owner
     match frame {
         Frame::Begin(task) => owner_of_task(w, home, task),
         Frame::Begun(task) => owner_of_begun(w, home, task),
-        Frame::Anew(task) => owner_of_anew(w, home, task),
+        Frame::Anew(task) => owner_of_task(w, home, task),
         Frame::Expr(_) => Owner::Expressions,
         Frame::Stmt(_) => Owner::Statements,
         Frame::Call(_) => Owner::Calls,
         Frame::Reflect(_) => Owner::Reflecting,
+        Frame::Array(_) => Owner::Arrays,
+        Frame::Proxy(_) => Owner::Proxies,
         Frame::Entry(_) => owner_of_entry(w),
-        _ => Owner::Nobody,
+        Frame::Collect(_) => Owner::Nobody,
+        Frame::Membrane(_) => Owner::Nobody,
     }
 }
 
@@ -87,19 +93,8 @@ fn owner_of_begun(w: &World, home: Side, task: &Task) -> Owner
 {
     match owner_of_task(w, home, task) {
         Owner::Calls => Owner::Calls,
+        Owner::Proxies => Owner::Proxies,
         _ => Owner::Nobody,
-    }
-}
-
-// No built-in starts anew whose steps are missing.
-fn owner_of_anew(w: &World, home: Side, task: &Task) -> Owner
-    requires runs { CanRun w.now home }
-    requires ids { AreIn w.now (task_held task.now) }
-    ensures { AnewBelongs w.now result home task.now }
-{
-    match owner_of_task(w, home, task) {
-        Owner::Missing => Owner::Nobody,
-        other => other,
     }
 }
 
@@ -161,32 +156,32 @@ fn owner_of_form(form: Form<'_>) -> Owner
     }
 }
 
-// A method of a script-made Proxy and one of a membrane proxy have no steps yet.
+// A method of a membrane proxy has no steps yet.
 fn owner_of_method(w: &World, object: ObjId) -> Owner
     requires { ObjIn w.now object }
     ensures { (method : Method) (viewer : ASide) (enters : Bool) (home : ASide) →
         TaskBelongs w.now result home (t.Perform method object viewer enters) }
 {
     match w.cell(object).kind {
-        CellKind::Proxy { .. } => Owner::Nobody,
+        CellKind::Proxy { .. } => Owner::Proxies,
         CellKind::Membrane { .. } => Owner::Nobody,
         _ => Owner::Calls,
     }
 }
 
-// What revokes a Proxy has no steps yet.
 fn owner_of_entering(w: &World, function: ObjId) -> Owner
     requires { ObjIn w.now function }
     ensures { (this : Value) (arguments : List Value) (home : ASide) →
         TaskBelongs w.now result home (t.Enter function this arguments) }
 {
     match w.cell(function).kind {
-        CellKind::Revoker(_) => Owner::Nobody,
+        CellKind::Revoker(_) => Owner::Proxies,
         CellKind::Membrane { .. } => Owner::Nobody,
         _ => Owner::Calls,
     }
 }
 
+// No scope binds the names of collections, whose built-ins have no steps yet.
 fn owner_of_built_in(place: u16) -> Owner
     ensures { (this target : Value) (arguments : List Value) (d : Data) (home : ASide) →
         TaskBelongs d result home (t.Run place this arguments target) }
@@ -195,8 +190,12 @@ fn owner_of_built_in(place: u16) -> Owner
         Owner::Intrinsics
     } else if is_reflecting(place) {
         Owner::Reflecting
+    } else if is_of_arrays(place) {
+        Owner::Arrays
+    } else if makes_proxies(place) {
+        Owner::Proxies
     } else {
-        Owner::Missing
+        Owner::Nobody
     }
 }
 
@@ -215,6 +214,18 @@ fn is_reflecting(place: u16) -> bool
         || is_within(ERROR, OBJECT_GET_OWN_PROPERTY_DESCRIPTOR, place)
         || is_within(REFLECT_APPLY, REFLECT_SET_PROTOTYPE_OF, place)
         || is_within(ERROR_PROTOTYPE, FUNCTION_PROTOTYPE_APPLY, place)
+}
+
+fn is_of_arrays(place: u16) -> bool
+    ensures { result ≡ array_place place }
+{
+    place == ARRAY || is_within(ARRAY_PROTOTYPE, ARRAY_IS_ARRAY, place)
+}
+
+fn makes_proxies(place: u16) -> bool
+    ensures { result ≡ proxy_place place }
+{
+    place == PROXY || place == PROXY_REVOCABLE
 }
 
 fn is_within(first: u16, last: u16, place: u16) -> bool

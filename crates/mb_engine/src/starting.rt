@@ -1,12 +1,12 @@
 // A machine that begins a job.
 ghost use Rattle.std.specs.Prelude.{◌≡◌, ◌<◌, ℕ, [], IfOk, List, None};
 ghost use Rattle.mb_engine.specs.Begun.{HasScript, IsBegun};
-ghost use Rattle.mb_engine.specs.Interim.{interim, job_ends_by};
-ghost use Rattle.mb_engine.specs.machine.Advancing.{now};
+ghost use Rattle.mb_engine.specs.machine.Advancing.{meant};
 ghost use Rattle.mb_engine.specs.machine.Starting.{Begins, script_frame};
 ghost use Rattle.mb_frames.specs.Found.{HoldsJob};
 ghost use Rattle.mb_frames.specs.Ready.{IsReadyMachine};
 ghost use Rattle.mb_frames.specs.Standing.{RestBy};
+ghost use Rattle.mb_model.specs.Story.{job_ends};
 ghost use Rattle.mb_world.specs.Formed.{IsCallable};
 ghost use Rattle.mb_world.specs.Graph.{Item};
 ghost use Rattle.mb_world.specs.Image.{Image, job_in, names_of};
@@ -22,8 +22,8 @@ pub(crate) fn start(w: &World, side: Side, job: Job) -> Result<Machine, NoMemory
     requires side { side.0 < w.now.sides }
     requires job { HoldsJob w.now side job }
     ensures ready { IfOk result (λ m. IsReadyMachine w.now m) }
-    ensures rest { IfOk result (λ m. (f : ℕ) (log : List Item) → RestBy now m w.now f log
-        ≡ job_ends_by interim side.0 (job_in (names_of w.now) job) (Image w.now log) f) }
+    ensures rest { IfOk result (λ m. (f : ℕ) (log : List Item) → RestBy meant m w.now f log
+        ≡ job_ends side.0 (job_in (names_of w.now) job) (Image w.now log) f) }
 {
     let alloc = *w.trace().allocator();
     let frame = begin_job(w, Values::new(alloc), side, job);

@@ -1,12 +1,15 @@
 // Turns of scripts.
+mod array_members;
 mod arrays;
 mod built_ins;
 mod calls;
 mod driver;
 mod expressions;
 mod methods;
+mod mixed;
 mod objects;
 mod operators;
+mod proxies;
 mod rows;
 mod scripts;
 mod statements;
@@ -65,12 +68,17 @@ fn what_may_be_thrown(rt: HostRuntime) {
 }
 
 #[test]
-fn built_ins_without_steps_throw(rt: HostRuntime) {
-    let script = "try { Array.isArray(1); } catch (e) { print(\"caught\"); }";
-    let told = ran(&rt, rt.alloc(), script, 100);
-    is_told(&rt, &told, TurnEnd::Ended, told.left, &["L caught"]);
-    let told = ran(&rt, rt.alloc(), "new Array(3);", 100);
-    is_told(&rt, &told, TurnEnd::Uncaught, told.left, &["L! TypeError"]);
+fn names_of_collections_are_not_bound(rt: HostRuntime) {
+    for script in ["Map;", "new Set();", "new WeakMap();"] {
+        let told = ran(&rt, rt.alloc(), script, 100);
+        is_told(
+            &rt,
+            &told,
+            TurnEnd::Uncaught,
+            told.left,
+            &["L! ReferenceError"],
+        );
+    }
 }
 
 #[test]

@@ -2,7 +2,6 @@
 ghost use Rattle.std.specs.Prelude.{◌≡◌, ◌≢◌, ◌<◌, ◌↔◌, [], List, IfOk, IsSome, Ok, OnOk, false, if◌then◌else◌, true};
 ghost use Rattle.std.specs.Prelude.{ℕ};
 ghost use Rattle.mb_engine.specs.Begun.{IsBegun};
-ghost use Rattle.mb_engine.specs.Interim.{TurnBy, interim, job_ends_by};
 ghost use Rattle.mb_engine.specs.Turns.{AddsLines, Turns, halts};
 ghost use Rattle.mb_engine.specs.machine.Running.{Finishes, IsRealOutcome, JobEnds};
 ghost use Rattle.mb_frames.specs.Found.{HoldsJob};
@@ -13,7 +12,7 @@ ghost use Rattle.mb_frames.specs.Standing.{Logged};
 ghost use Rattle.mb_frames.specs.Stepping.{written};
 ghost use Rattle.mb_frames.specs.Wholeness.{StaysFound};
 ghost use Rattle.mb_model.specs.Engine.{Gives};
-ghost use Rattle.mb_model.specs.Story.{turn_ended};
+ghost use Rattle.mb_model.specs.Story.{TurnOf, job_ends, turn_ended};
 ghost use Rattle.mb_world.specs.Data.{queue_of};
 ghost use Rattle.mb_world.specs.Graph.{Item};
 ghost use Rattle.mb_world.specs.Image.{Image, job_in, names_of};
@@ -48,7 +47,7 @@ pub fn turn(w: &mut World, side: Side, fuel: &mut Fuel, lines: &mut Lines) -> Tu
 
     // the turn of the story, with exact units, lines and entries
     ensures turns { (log : List Item) → Logged w.old log → Turns result w.new fuel.new (written lines.old)
-        (written lines.new) log (TurnBy interim (Image w.old log) side.0 fuel.old) }
+        (written lines.new) log (TurnOf (Image w.old log) side.0 fuel.old) }
     ensures idle { (result ≡ TurnEnd.Idle) ↔ (queue_of w.old side ≡ []) }
     ensures rests { result ≡ TurnEnd.Idle →
         (w.new ≡ w.old) × (fuel.new ≡ fuel.old) × (written lines.new ≡ written lines.old) }
@@ -88,7 +87,7 @@ fn do_job(w: &mut World, side: Side, fuel: &mut Fuel, lines: &mut Lines, job: Jo
     requires job { HoldsJob w.old side job }
     ensures turns { (log : List Item) → Logged w.old log → Turns result w.new fuel.new (written lines.old)
         (written lines.new) log
-        (turn_ended side.0 (job_ends_by interim side.0 (job_in (names_of w.old) job) (Image w.old log) fuel.old)) }
+        (turn_ended side.0 (job_ends side.0 (job_in (names_of w.old) job) (Image w.old log) fuel.old)) }
     ensures worked { result ≢ TurnEnd.Idle }
     ensures ready { IsReady w.new }
     ensures found { StaysFound w.old w.new }
@@ -115,7 +114,7 @@ fn end_of(w: &mut World, side: Side, fuel: &mut Fuel, lines: &mut Lines, job: Jo
     requires job { HoldsJob w.old side job }
     ensures turns { (log : List Item) → Logged w.old log → Turns result w.new fuel.new (written lines.old)
         (written lines.new) log
-        (turn_ended side.0 (job_ends_by interim side.0 (job_in (names_of w.old) job) (Image w.old log) fuel.old)) }
+        (turn_ended side.0 (job_ends side.0 (job_in (names_of w.old) job) (Image w.old log) fuel.old)) }
     ensures worked { result ≢ TurnEnd.Idle }
     ensures ready { IsReady w.new }
     ensures found { StaysFound w.old w.new }
@@ -140,7 +139,7 @@ fn outcome_of(
     requires side { side.0 < w.old.sides }
     requires job { HoldsJob w.old side job }
     ensures ends { (log : List Item) → Logged w.old log → JobEnds result w.new fuel.new (written lines.old)
-        (written lines.new) log (job_ends_by interim side.0 (job_in (names_of w.old) job) (Image w.old log) fuel.old) }
+        (written lines.new) log (job_ends side.0 (job_in (names_of w.old) job) (Image w.old log) fuel.old) }
     ensures ready { IsReady w.new }
     ensures found { StaysFound w.old w.new }
     ensures running { OnOk result (w.new.halted ≡ false) }

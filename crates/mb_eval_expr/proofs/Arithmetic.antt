@@ -1,5 +1,6 @@
 -- Whole numbers and the results that leave their range.
-use Rattle.std.proofs.Common.{◌<◌, Bool, None, Ok, Option, Some, ap, arith, false, nat_le, nat_lt, negsuc, pos, refl, slice_get, suc, sym, true, ℕ, ℤ, subst, to_z, of_z, ◌∙◌, ◌≡◌, w64}
+use Rattle.std.proofs.Common.{◌<◌, Bool, None, Ok, Option, Some, ap, arith, false, nat_le, nat_lt, negsuc, pos, refl}
+use Rattle.std.proofs.Common.{slice_get, suc, sym, true, ℕ, ℤ, subst, to_z, of_z, ◌∙◌, ◌≡◌, w64}
 use Rattle.std.specs.Prelude.{FitsSigned, SomeIff, if◌then◌else◌, unsigned_abs}
 use Rattle.std.proofs.lemmas.Bool.Decides.{nat_tests}
 use Rattle.std.proofs.lemmas.Int.{fits_signed_from_abs, to_z-of_z}

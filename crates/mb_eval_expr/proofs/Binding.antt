@@ -13,7 +13,8 @@ use Rattle.mb_world.specs.Formed.{FormedScope, InRange, option_values}
 use Rattle.mb_world.specs.Ids.{BoundIn, Maybe, ScopeOf}
 use Rattle.mb_world.specs.declared.scope.Bound.{Bound}
 use Rattle.mb_world.specs.declared.scope.Scope.{Scope}
-use Rattle.std.proofs.Common.{Bool, List, None, Option, Some, [], ap, false, nat_eq, refl, slice_get, slice_set, subst, suc, sym, zero, ℕ, ◌∙◌, ◌∷◌, ◌≡◌}
+use Rattle.std.proofs.Common.{Bool, List, None, Option, Some, [], ap, false, nat_eq, refl, slice_get, slice_set, subst}
+use Rattle.std.proofs.Common.{suc, sym, zero, ℕ, ◌∙◌, ◌∷◌, ◌≡◌}
 use Rattle.std.proofs.lemmas.List.Elements.{All-append, All-cons, All-head, All-nil}
 use Rattle.std.proofs.lemmas.Map.Keys.{IsDistinct-cons, IsDistinct-head, IsDistinct-tail}
 use Rattle.std.specs.List.{AllByRecursion, IsDistinct, flat_map}

@@ -1,5 +1,6 @@
 -- Calls and `new`: the next argument is evaluated, or what has them all is called.
-use Rattle.std.proofs.Common.{◌+◌, List, None, Ok, Result, Some, ap, drop, false, length, refl, slice_get, true, ℕ, ◌∙◌, ◌≡◌}
+use Rattle.std.proofs.Common.{◌+◌, List, None, Ok, Result, Some, ap, drop, false, length, refl, slice_get, true, ℕ, ◌∙◌}
+use Rattle.std.proofs.Common.{◌≡◌}
 use Rattle.std.specs.Prelude.{All}
 use Rattle.mb_base.specs.declared.value.NodeId.{NodeId}
 use Rattle.mb_base.specs.declared.value.ObjId.{ObjId}

@@ -1,5 +1,6 @@
 -- Values that are compared: two whole numbers, or two texts by their units.
-use Rattle.std.proofs.Common.{◌&&◌, ◌||◌, Bool, List, None, Ok, Option, Some, [], ap, arith, cond, false, nat_eq, nat_le, nat_lt, negsuc, not, pos, refl, sym, true, true≢false, ℕ, ℤ, ◌∙◌, ◌∷◌, ◌≡◌}
+use Rattle.std.proofs.Common.{◌&&◌, ◌||◌, Bool, List, None, Ok, Option, Some, [], ap, arith, cond, false, nat_eq}
+use Rattle.std.proofs.Common.{nat_le, nat_lt, negsuc, not, pos, refl, sym, true, true≢false, ℕ, ℤ, ◌∙◌, ◌∷◌, ◌≡◌}
 use Rattle.std.proofs.lemmas.Bool.Decides.{nat_tests}
 use Rattle.std.specs.Cmp.Lexicographic.{slice_cmp}
 use Rattle.std.specs.Ordering.{int_cmp, is_ge, is_gt, is_le, is_lt, nat_cmp, ordering_then}

@@ -12,7 +12,8 @@ use Rattle.mb_desc.specs.declared.descriptor.Full.{Full}
 use Rattle.mb_eval_expr.specs.declared.definitions.Definition.{Definition}
 use Rattle.mb_eval_expr.specs.declared.definitions.Definition.TheVariants as def
 use Rattle.mb_eval_expr.specs.machine.Literals.{described_by}
-use Rattle.mb_eval_expr.specs.machine.Storing.{Stores, opened}
+use Rattle.mb_parts.proofs.Opened.{opened-held}
+use Rattle.mb_parts.specs.Storing.{Stores}
 use Rattle.mb_frames.proofs.Entries.{entries-grow}
 use Rattle.mb_frames.proofs.Steps.{Grew-same}
 use Rattle.mb_frames.specs.Held.{HeldCallable, HeldDesc, HeldValue}
@@ -29,7 +30,8 @@ use Rattle.mb_world.specs.Data.{Data, cell_at, change_cell, is_object_cell, put_
 use Rattle.mb_world.specs.Formed.{IsCallableOrNot}
 use Rattle.mb_world.specs.Graph.{Graph, Item, Thing}
 use Rattle.mb_world.specs.Ids.{HasItsIds}
-use Rattle.mb_world.specs.Image.{Image, Names, Resolve, desc_in, key_in, names_of, object_at, object_in, object_of, owner_by, thing_in}
+use Rattle.mb_world.specs.Image.{Image, Names, Resolve, desc_in, key_in, names_of, object_at, object_in, object_of}
+use Rattle.mb_world.specs.Image.{owner_by, thing_in}
 use Rattle.mb_world.specs.Key.{PropertyKey}
 use Rattle.mb_world.specs.Ordinary.{Becomes as BecomesThing, Defined, Refused, ordinary_defined}
 use Rattle.mb_world.specs.Value.{Val}
@@ -116,21 +118,14 @@ module _ (d d' : Data) (home : Side) (id : ObjId) (c : Cell) (there : cell_at d 
 -- ---- what stands in a descriptor
 
 module _ (d : Data) (home : Side) where
-  pub opened-held : (x : Value) → MayHold d home (HeldValue x) → MayHold d home (HeldDesc (opened x))
-  opened-held x h = record {
-    within = record { value_in = h.within; get_in = tt; set_in = tt };
-    sound = (refl, record { get = tt; set = tt; wholes = (h.sound, tt) });
-    own = λ u. All-append (IsOwn d home) (in_value x) [] (h.own u) (All-nil (IsOwn d home));
-  }
-
   callable-or : (id : ObjId) → MayHold d home (HeldCallable (v.Object id)) → IsCallableOrNot d (v.Object id)
   callable-or id h = h.sound
 
   pub function-desc : (y : Definition) (id : ObjId) → MayHold d home (HeldValue (v.Object id)) → MayHold d home
       (HeldCallable (v.Object id))
       → MayHold d home (HeldDesc (described_by y (v.Object id)))
-  function-desc (def.Value node) id h k = opened-held (v.Object id) h
-  function-desc (def.Method n) id h k = opened-held (v.Object id) h
+  function-desc (def.Value node) id h k = opened-held d home (v.Object id) h
+  function-desc (def.Method n) id h k = opened-held d home (v.Object id) h
   function-desc (def.Getter n) id h k = record {
     within = record { value_in = tt; get_in = h.within; set_in = tt };
     sound = (refl, record { get = k.sound; set = tt; wholes = (h.sound, tt) });

@@ -1,5 +1,6 @@
 -- Whole numbers that are divided.
-use Rattle.std.proofs.Common.{Bool, None, Option, Some, ap, arith, false, nat_eq, negsuc, of_z, pos, refl, sym, to_z, true, ℤ, ◌∙◌, ◌≡◌, w64}
+use Rattle.std.proofs.Common.{Bool, None, Option, Some, ap, arith, false, nat_eq, negsuc, of_z, pos, refl, sym, to_z}
+use Rattle.std.proofs.Common.{true, ℤ, ◌∙◌, ◌≡◌, w64}
 use Rattle.std.proofs.lemmas.Bool.Decides.{nat_tests}
 use Rattle.std.proofs.lemmas.Int.{to_z-of_z}
 use Rattle.std.specs.Int.{IsNonZero}

@@ -1,5 +1,6 @@
 -- What `+` and whole numbers' operators give, with the charge of a text.
-use Rattle.std.proofs.Common.{◌+◌, ◌++◌, ◌-ℤ◌, ◌/◌, ◌<◌, ◌≤◌, Bool, Err, List, None, Ok, Option, Result, Some, ap, arith, false, length, nat_lt, refl, subst, sym, true, true≢false, ℕ, ℤ, ◌∙◌, ◌≡◌}
+use Rattle.std.proofs.Common.{◌+◌, ◌++◌, ◌-ℤ◌, ◌/◌, ◌<◌, ◌≤◌, Bool, Err, List, None, Ok, Option, Result, Some, ap}
+use Rattle.std.proofs.Common.{arith, false, length, nat_lt, refl, subst, sym, true, true≢false, ℕ, ℤ, ◌∙◌, ◌≡◌}
 use Rattle.std.proofs.lemmas.Bool.Decides.{nat_tests}
 use Rattle.std.specs.Prelude.{◌*ℤ◌, OnErr, OnOk, if◌then◌else◌}
 use Rattle.mb_base.specs.declared.value.Side.{Side}

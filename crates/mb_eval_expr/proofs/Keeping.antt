@@ -37,7 +37,8 @@ use Rattle.mb_eval_expr.specs.machine.Uses.{use_frame}
 use Rattle.mb_model.specs.Operations.Conversions.{in_range}
 use Rattle.std.proofs.lemmas.Bool.Decides.{nat_tests}
 use Rattle.std.specs.Int.Signed.{mag}
-use Rattle.std.proofs.Common.{Bool, Err, arith, negsuc, pos, suc, zero, ℕ, ℤ, ◌^◌, ◌-ℤ◌, None, Ok, Option, Result, Some, [], false, refl, slice_get, sym, true, true≢false, ◌<◌, ◌∷◌, ◌≡◌}
+use Rattle.std.proofs.Common.{Bool, Err, arith, negsuc, pos, suc, zero, ℕ, ℤ, ◌^◌, ◌-ℤ◌, None, Ok, Option, Result, Some}
+use Rattle.std.proofs.Common.{[], false, refl, slice_get, sym, true, true≢false, ◌<◌, ◌∷◌, ◌≡◌}
 use Rattle.std.proofs.lemmas.List.Elements.{All-nil}
 use Rattle.std.specs.Prelude.{if◌then◌else◌}
 use Rattle.mb_frames.proofs.Parts.{all-both}

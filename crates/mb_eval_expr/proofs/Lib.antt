@@ -5,8 +5,6 @@ pub mod Comparing
 pub mod Dividing
 pub mod Joining
 pub mod Keeping
-pub mod Fresh
-pub mod Lengthened
 pub mod Listing
 pub mod Naming
 pub mod Operating
@@ -14,7 +12,6 @@ pub mod Placing
 pub mod Propping
 pub mod Spelling
 pub mod Steadying
-pub mod Stored
 pub mod Targeting
 pub mod Redefined
 pub mod Referring

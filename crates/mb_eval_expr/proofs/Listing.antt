@@ -1,5 +1,6 @@
 -- Elements of array literals, one after the other.
-use Rattle.std.proofs.Common.{true, true≢false, Option, ◌≡◌, ◌∙◌, List, None, Ok, Result, Some, ap, drop, refl, slice_get, sym, ℕ}
+use Rattle.std.proofs.Common.{true, true≢false, Option, ◌≡◌, ◌∙◌, List, None, Ok, Result, Some, ap, drop, refl}
+use Rattle.std.proofs.Common.{slice_get, sym, ℕ}
 use Rattle.mb_base.specs.declared.value.NodeId.{NodeId}
 use Rattle.mb_base.specs.declared.value.ObjId.{ObjId}
 use Rattle.mb_base.specs.declared.value.Side.{Side}

@@ -11,7 +11,7 @@ use Rattle.mb_eval_expr.specs.declared.definitions.Definition.{Definition}
 use Rattle.mb_eval_expr.specs.declared.definitions.Definition.TheVariants as def
 use Rattle.mb_eval_expr.specs.declared.props.Literal.{Literal}
 use Rattle.mb_eval_expr.specs.machine.Literals.{Defines, IsMethodOf, IsOf, described_by, literal_held, rest_of}
-use Rattle.mb_eval_expr.specs.machine.Storing.{Stores}
+use Rattle.mb_parts.specs.Storing.{Stores}
 use Rattle.mb_frames.proofs.Going.{WentOn-then}
 use Rattle.mb_frames.proofs.Passed.{Part-passed, Passes-texts}
 use Rattle.mb_frames.specs.Going.{WentOn}

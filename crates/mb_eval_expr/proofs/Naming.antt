@@ -1,5 +1,6 @@
 -- Names by their ids are names by their units, and a search of scopes goes on one scope up.
-use Rattle.std.proofs.Common.{Bool, List, None, Option, Some, [], ap, false, map, nat_eq, option_map, refl, slice_get, suc, sym, true, true≢false, zero, ℕ, ◌∙◌, ◌∷◌, ◌≡◌}
+use Rattle.std.proofs.Common.{Bool, List, None, Option, Some, [], ap, false, map, nat_eq, option_map, refl, slice_get}
+use Rattle.std.proofs.Common.{suc, sym, true, true≢false, zero, ℕ, ◌∙◌, ◌∷◌, ◌≡◌}
 use Rattle.std.specs.Prelude.{All, IfSome, position}
 use Rattle.std.specs.List.{position_or_len}
 use Rattle.std.proofs.lemmas.List.{length-map}

@@ -1,5 +1,6 @@
 -- Properties of object literals, one after the other.
-use Rattle.std.proofs.Common.{◌+◌, ◌≡◌, ◌∙◌, Err, List, None, Ok, Option, Result, Some, ap, arith, drop, false, refl, slice_get, subst, sym, true, true≢false, ℕ}
+use Rattle.std.proofs.Common.{◌+◌, ◌≡◌, ◌∙◌, Err, List, None, Ok, Option, Result, Some, ap, arith, drop, false, refl}
+use Rattle.std.proofs.Common.{slice_get, subst, sym, true, true≢false, ℕ}
 use Rattle.mb_base.specs.declared.value.Key.{Key}
 use Rattle.mb_base.specs.declared.value.NodeId.{NodeId}
 use Rattle.mb_base.specs.declared.value.Side.{Side}

@@ -1,5 +1,6 @@
 -- The properties of a literal, one after the other.
-use Rattle.std.proofs.Common.{◌+◌, ◌<◌, ◌≡◌, ◌≤◌, ◌∙◌, ◌∷◌, suc, zero, Err, List, Some, [], ap, arith, drop, length, refl, slice_get, subst, sym, true, ℕ}
+use Rattle.std.proofs.Common.{◌+◌, ◌<◌, ◌≡◌, ◌≤◌, ◌∙◌, ◌∷◌, suc, zero, Err, List, Some, [], ap, arith, drop, length}
+use Rattle.std.proofs.Common.{refl, slice_get, subst, sym, true, ℕ}
 use Rattle.std.specs.Prelude.{map, IsSomeAnd}
 use Rattle.mb_base.specs.declared.value.NodeId.{NodeId}
 use Rattle.mb_base.specs.declared.value.Side.{Side}

@@ -1,5 +1,6 @@
 -- References that are read and written: an object is asked, and what is no object is told at once.
-use Rattle.std.proofs.Common.{◌&&◌, ◌++◌, ◌∷◌, [], Bool, List, nat_eq, None, Ok, Option, Result, Some, ap, false, refl, slice_get, sym, true, ℕ, ◌∙◌, ◌≡◌}
+use Rattle.std.proofs.Common.{◌&&◌, ◌++◌, ◌∷◌, [], Bool, List, nat_eq, None, Ok, Option, Result, Some, ap, false, refl}
+use Rattle.std.proofs.Common.{slice_get, sym, true, ℕ, ◌∙◌, ◌≡◌}
 use Rattle.std.specs.Cmp.Lexicographic.{pointwise}
 use Rattle.std.specs.List.{AllByRecursion}
 use Rattle.std.specs.Prelude.{if◌then◌else◌}

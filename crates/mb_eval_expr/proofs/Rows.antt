@@ -1,5 +1,6 @@
 -- Rows of expressions as they begin.
-use Rattle.std.proofs.Common.{◌+◌, ◌<◌, Err, List, None, Ok, Option, Result, Some, ap, length, refl, slice_get, suc, sym, [], ◌∷◌, true, true≢false, ℕ, ◌∙◌, ◌≡◌}
+use Rattle.std.proofs.Common.{◌+◌, ◌<◌, Err, List, None, Ok, Option, Result, Some, ap, length, refl, slice_get, suc}
+use Rattle.std.proofs.Common.{sym, [], ◌∷◌, true, true≢false, ℕ, ◌∙◌, ◌≡◌}
 use Rattle.mb_base.specs.declared.value.NodeId.{NodeId}
 use Rattle.mb_base.specs.declared.value.Side.{Side}
 use Rattle.mb_base.specs.declared.value.StrId.{StrId}

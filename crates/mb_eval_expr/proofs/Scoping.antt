@@ -1,5 +1,6 @@
 -- Scopes that are added and given names, in a world and in its image.
-use Rattle.std.proofs.Common.{◌≡◌, ◌∙◌, ◌∷◌, List, None, Ok, Some, [], ap, arith, length, length-append, nat_eq, refl, sym, true, ℕ, ◌<◌}
+use Rattle.std.proofs.Common.{◌≡◌, ◌∙◌, ◌∷◌, List, None, Ok, Some, [], ap, arith, length, length-append, nat_eq, refl}
+use Rattle.std.proofs.Common.{sym, true, ℕ, ◌<◌}
 use Rattle.std.specs.List.{IsDistinct}
 use Rattle.std.proofs.lemmas.List.Elements.{All-cons, All-nil}
 use Rattle.mb_base.specs.declared.value.ScopeId.{ScopeId}

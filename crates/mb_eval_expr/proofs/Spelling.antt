@@ -1,5 +1,6 @@
 -- Names of functions that properties have.
-use Rattle.std.proofs.Common.{◌++◌, Bool, ◌<◌, ◌≡◌, ◌∙◌, ◌≤◌, Err, List, None, Ok, Option, Result, Some, ap, arith, false, length, length-append, nat_lt, option_map, refl, sym, true, ℕ}
+use Rattle.std.proofs.Common.{◌++◌, Bool, ◌<◌, ◌≡◌, ◌∙◌, ◌≤◌, Err, List, None, Ok, Option, Result, Some, ap, arith}
+use Rattle.std.proofs.Common.{false, length, length-append, nat_lt, option_map, refl, sym, true, ℕ}
 use Rattle.std.specs.Prelude.{IfOk}
 use Rattle.std.proofs.lemmas.Bool.Decides.{nat_tests}
 use Rattle.std.proofs.lemmas.Option.{slice_get-get_or, slice_get-map}

@@ -1,5 +1,6 @@
 -- What a ready machine with an expression on top holds.
-use Rattle.std.proofs.Common.{◌++◌, ◌≡◌, ◌∙◌, ◌∷◌, subst, List, None, Ok, Option, Some, [], slice_get, refl, sym, true, true≢false, ℕ, Result}
+use Rattle.std.proofs.Common.{◌++◌, ◌≡◌, ◌∙◌, ◌∷◌, subst, List, None, Ok, Option, Some, [], slice_get, refl, sym, true}
+use Rattle.std.proofs.Common.{true≢false, ℕ, Result}
 use Rattle.mb_base.specs.declared.value.Side.{Side}
 use Rattle.mb_base.specs.declared.value.Value.{Value}
 use Rattle.mb_base.specs.declared.value.Value.TheVariants as v
@@ -17,7 +18,9 @@ use Rattle.mb_frames.specs.declared.task.Task.TheVariants as task
 use Rattle.mb_frames.specs.Held.{HeldValue}
 use Rattle.mb_frames.specs.Holding.{answer_held, done_held, expr_held, frame_held, task_held}
 use Rattle.mb_frames.specs.Ready.{Holds, IsReady, IsReadyMachine, Keeps, KeepsBy, Leaves, MayHold}
-use Rattle.mb_frames.specs.Sorts.{AFlag, ACompletion, AProperty, APrototype, ASlot, AValue, AnObject, AreLinked, IsAnswer, IsOfSort, SomeKeys, Sort, expr_waits, fits, form_gives, frame_sort, task_gives, waits_for}
+use Rattle.mb_frames.specs.Sorts.{AFlag, ACompletion, AProperty, APrototype, ASlot, AValue, AnObject, AreLinked}
+use Rattle.mb_frames.specs.Sorts.{IsAnswer, IsOfSort, SomeKeys, Sort, expr_waits, fits, form_gives, frame_sort}
+use Rattle.mb_frames.specs.Sorts.{task_gives, waits_for}
 use Rattle.mb_frames.specs.Standing.{Here, forms_at}
 use Rattle.mb_frames.specs.Stepping.{HasItsOutcome, IsStart, MayCross, Stepped, Written}
 use Rattle.mb_frames.specs.declared.expressions.ExprFrame.{ExprFrame}
@@ -32,7 +35,9 @@ use Rattle.mb_frames.specs.declared.task.Answer.TheVariants as a
 use Rattle.mb_frames.specs.declared.task.Outcome.{Outcome}
 use Rattle.mb_frames.specs.declared.task.Outcome.TheVariants as o
 use Rattle.mb_world.specs.Data.{Data}
-use Rattle.mb_world.specs.Form.{BlockForm, BreakForm, ConstForm, ContinueForm, DeclForm, DoWhileForm, EmptyForm, ExprStmtForm, ForForm, Form, FunctionDeclForm, GetterForm, IfForm, LetForm, MethodForm, ParamForm, ReturnForm, ScriptForm, SetterForm, ThrowForm, TryForm, ValueForm, WhileForm}
+use Rattle.mb_world.specs.Form.{BlockForm, BreakForm, ConstForm, ContinueForm, DeclForm, DoWhileForm, EmptyForm}
+use Rattle.mb_world.specs.Form.{ExprStmtForm, ForForm, Form, FunctionDeclForm, GetterForm, IfForm, LetForm, MethodForm}
+use Rattle.mb_world.specs.Form.{ParamForm, ReturnForm, ScriptForm, SetterForm, ThrowForm, TryForm, ValueForm, WhileForm}
 use Rattle.mb_world.specs.Formed.{IsNullOrObject}
 use Rattle.mb_world.specs.Ids.{Maybe}
 

@@ -1,5 +1,6 @@
 -- Charges for the nodes around an operand, and what is inside them.
-use Rattle.std.proofs.Common.{◌+◌, ◌++◌, ◌<◌, append_assoc, length-append, Err, List, None, Ok, Option, Result, Some, [], ap, arith, length, refl, slice_get, subst, suc, sym, ℕ, ◌∙◌, ◌∷◌, ◌≡◌}
+use Rattle.std.proofs.Common.{◌+◌, ◌++◌, ◌<◌, append_assoc, length-append, Err, List, None, Ok, Option, Result, Some}
+use Rattle.std.proofs.Common.{[], ap, arith, length, refl, slice_get, subst, suc, sym, ℕ, ◌∙◌, ◌∷◌, ◌≡◌}
 use Rattle.mb_base.specs.declared.value.Side.{Side}
 use Rattle.mb_frames.proofs.Forms.{forms-are}
 use Rattle.mb_frames.proofs.Passed.{Part-each, Part-passed, Passes-by, Passes-each, Passes-then}

@@ -1,5 +1,6 @@
 -- Names that are written.
-use Rattle.std.proofs.Common.{◌<◌, ◌∷◌, [], arith, length, suc, zero, Bool, List, map, None, Ok, Option, Result, Some, ap, false, option_map, refl, slice_get, slice_set, sym, true, ℕ, ◌∙◌, ◌≡◌}
+use Rattle.std.proofs.Common.{◌<◌, ◌∷◌, [], arith, length, suc, zero, Bool, List, map, None, Ok, Option, Result, Some}
+use Rattle.std.proofs.Common.{ap, false, option_map, refl, slice_get, slice_set, sym, true, ℕ, ◌∙◌, ◌≡◌}
 use Rattle.std.proofs.lemmas.List.{map-set}
 use Rattle.std.proofs.lemmas.Option.{slice_get-map}
 use Rattle.mb_base.specs.declared.value.ScopeId.{ScopeId}
@@ -12,12 +13,14 @@ use Rattle.mb_frames.specs.Stepping.{Sure}
 use Rattle.mb_frames.specs.declared.frame.Move.{Move}
 use Rattle.mb_frames.specs.declared.machine.Halt.{Halt}
 use Rattle.mb_model.specs.Meaning.{finished}
-use Rattle.mb_model.specs.Nodes.Scopes.{bind_with, binding_at, find_binding, giving as graph_giving, resolve, scope_with, scopes_with, write_bound, write_name, write_value}
+use Rattle.mb_model.specs.Nodes.Scopes.{bind_with, binding_at, find_binding, giving as graph_giving, resolve}
+use Rattle.mb_model.specs.Nodes.Scopes.{scope_with, scopes_with, write_bound, write_name, write_value}
 use Rattle.mb_model.specs.Writing.{◌>>=◌, is_value, reference_error, type_error}
 use Rattle.mb_world.proofs.AfterCalls.{of-changed-scope}
 use Rattle.mb_world.specs.declared.scope.Bound.{Bound}
 use Rattle.mb_world.specs.declared.scope.Scope.{Scope}
-use Rattle.mb_world.specs.Data.{Data, Script, change_scope, change_scope_if, give_if, given_value, giving, scope_at, set_scope}
+use Rattle.mb_world.specs.Data.{Data, Script, change_scope, change_scope_if, give_if, given_value, giving, scope_at}
+use Rattle.mb_world.specs.Data.{set_scope}
 use Rattle.mb_world.specs.Graph.{Binding, Entry, Graph, Item, Scope as GraphScope}
 use Rattle.mb_world.specs.Image.{Image, Resolve, binding_in, entries_in, names_of, scope_in}
 use Rattle.mb_world.specs.Value.{Val}

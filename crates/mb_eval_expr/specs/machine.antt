@@ -5,6 +5,5 @@ pub mod Literals
 pub mod Names
 pub mod Plain
 pub mod Resuming
-pub mod Storing
 pub mod Targets
 pub mod Uses

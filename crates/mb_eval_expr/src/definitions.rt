@@ -10,10 +10,10 @@ ghost use Rattle.mb_tree.specs.Seen.{seen, seen_name};
 ghost use Rattle.mb_world.specs.Data.{Data};
 ghost use Rattle.mb_eval_expr.specs.machine.Literals.{HasItsNodes, IsProp, described_by};
 
-use crate::elements::open_desc;
 use mb_base::{NodeId, Side, Value};
 use mb_desc::Desc;
 use mb_frames::form_at;
+use mb_parts::open_desc;
 use mb_tree::{Form, PropName};
 use mb_world::World;
 

@@ -1,5 +1,5 @@
 // Literals of arrays (ECMA-262, 13.2.4).
-ghost use Rattle.std.specs.Prelude.{◌≡◌, ◌+◌, ◌<◌, ◌-◌, ◌^◌, ◌∷◌, [], ℕ, OnOk, drop};
+ghost use Rattle.std.specs.Prelude.{◌+◌, ◌∷◌, [], ℕ, drop};
 ghost use Rattle.mb_frames.specs.Held.{HeldArray, HeldNode, HeldValue};
 ghost use Rattle.mb_frames.specs.Ready.{Holds, IsReady, Keeps};
 ghost use Rattle.mb_frames.specs.Resolved.{context_in};
@@ -14,36 +14,17 @@ ghost use Rattle.mb_world.specs.Ids.{ObjIn};
 ghost use Rattle.mb_world.specs.Image.{Resolve, names_of, object_in};
 ghost use Rattle.mb_frames.specs.Passing.{Part};
 ghost use Rattle.mb_parts.specs.Standing.{Acts, ContextIn};
-ghost use Rattle.mb_eval_expr.specs.machine.Storing.{Stores, opened};
 ghost use Rattle.mb_frames.specs.Holding.{expr_held};
-ghost use Rattle.mb_frames.specs.Keeping.{KeepsOn, none_held};
 ghost use Rattle.mb_frames.specs.Kinds.{is_array_form};
 ghost use Rattle.mb_frames.specs.Sorts.{AValue};
 ghost use Rattle.mb_frames.specs.declared.expressions.ExprFrame.TheVariants as TheFrame;
 ghost use Rattle.mb_eval_expr.specs.machine.Keeping.{context_held};
 
 use crate::giving::value;
-use crate::making::make_array;
-use mb_array::define_any;
 use mb_base::{NodeId, ObjId, Side, Value};
-use mb_desc::Desc;
 use mb_frames::{Context, ExprFrame, Frame, Halt, Move, Task, part_at};
-use mb_parts::digits;
+use mb_parts::{empty_array, store_element};
 use mb_world::World;
-
-// A property that can be written, listed and changed (ECMA-262, 7.3.5).
-pub(crate) fn open_desc(x: Value) -> Desc<Value>
-    ensures { result ≡ opened x }
-{
-    Desc {
-        value: Some(x),
-        writable: Some(true),
-        get: None,
-        set: None,
-        enumerable: Some(true),
-        configurable: Some(true),
-    }
-}
 
 // An array literal begins.
 pub(crate) fn array_row(w: &mut World, home: Side, at: Context, node: NodeId) -> Result<Move, Halt>
@@ -53,7 +34,7 @@ pub(crate) fn array_row(w: &mut World, home: Side, at: Context, node: NodeId) ->
         (λ a. elements (context_in (names_of w.old) home.0 at) a 0 (parts_at (forms_at w.old home) node.0)) finished) }
     ensures keeps { Keeps home AValue (HeldNode is_array_form node.0 ∷ context_held at) result w.old w.new }
 {
-    let array = make_array(w, home)?;
+    let array = empty_array(w, home)?;
     elements_from(w, home, at, node, array, 0)
 }
 
@@ -85,25 +66,6 @@ fn elements_from(
         )),
         None => Ok(value(Value::Object(array))),
     }
-}
-
-// CreateDataProperty of an element (ECMA-262, 7.3.5), whatever it answers.
-fn store_element(w: &mut World, home: Side, array: ObjId, place: u32, x: Value) -> Result<(), Halt>
-    requires place { place < 2 ^ 32 - 1 }
-    requires acts { Acts w.old home }
-    requires ready { IsReady w.old }
-    requires holds { Holds w.old home (HeldArray array ∷ HeldValue x ∷ []) }
-    ensures stored { Stores result w.old w.new
-        (store_element home.0 (object_in (names_of w.old) array) place (Resolve (names_of w.old) x)) }
-    ensures acts { OnOk result (Acts w.new home) }
-    ensures keeps { KeepsOn home (HeldArray array ∷ HeldValue x ∷ []) none_held result w.old w.new }
-{
-    let text = digits(w, place as i64)?;
-    let key = w.texts().key(text);
-    let _there = w.cell(array).props.get(key);
-    define_any(w, array, key, open_desc(x))?;
-    let _texts = w.texts();
-    Ok(())
 }
 
 // An element of an array literal is there.

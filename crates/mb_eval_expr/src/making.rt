@@ -1,36 +1,20 @@
-// Objects that literals begin with (ECMA-262, 10.1.12, 10.4.2.2).
+// Objects that literals begin with (ECMA-262, 10.1.12).
 ghost use Rattle.std.specs.Prelude.{[], None, IfOk, OnOk};
 ghost use Rattle.mb_frames.specs.Going.{Makes};
 ghost use Rattle.mb_frames.specs.Wholeness.{IsOfKind};
-ghost use Rattle.mb_model.specs.Operations.Makings.{make_array, make_plain};
+ghost use Rattle.mb_model.specs.Operations.Makings.{make_plain};
 ghost use Rattle.mb_world.specs.Standard.{object_prototype};
 ghost use Rattle.mb_world.specs.declared.cell.CellKind.TheVariants as TheKind;
 ghost use Rattle.mb_parts.specs.Standing.{Acts};
 ghost use Rattle.mb_frames.specs.Keeping.{KeepsOn};
-ghost use Rattle.mb_eval_expr.specs.machine.Keeping.{array_held, plain_held};
+ghost use Rattle.mb_eval_expr.specs.machine.Keeping.{plain_held};
 
 use mb_base::{ObjId, Side};
 use mb_frames::{Halt, built_in};
 use mb_world::{CellKind, World};
 
-// The places of the prototypes of objects and arrays.
+// The place of the prototype of objects.
 const OBJECT_PROTOTYPE: u16 = 13;
-
-const ARRAY_PROTOTYPE: u16 = 24;
-
-// A new array of that side, without elements.
-pub(crate) fn make_array(w: &mut World, home: Side) -> Result<ObjId, Halt>
-    requires { Acts w.old home }
-    ensures makes { Makes result w.old w.new (make_array home.0 []) }
-    ensures array { IfOk result (IsOfKind w.new home TheKind.Array) }
-    ensures acts { OnOk result (Acts w.new home) }
-    ensures keeps { KeepsOn home [] array_held result w.old w.new }
-{
-    let prototype = built_in(w, home, ARRAY_PROTOTYPE);
-    let array = w.make(home, CellKind::Array, prototype, None)?;
-    let _texts = w.texts();
-    Ok(array)
-}
 
 // A new object of that side, without properties.
 pub(crate) fn make_plain(w: &mut World, home: Side) -> Result<ObjId, Halt>

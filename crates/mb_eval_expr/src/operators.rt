@@ -1,7 +1,8 @@
 // Operators whose operands are there (ECMA-262, 13.5, 13.6 to 13.12).
 ghost use Rattle.std.specs.Prelude.{◌≡◌, ◌≤◌, ◌^◌, ℕ, List, Ok, length, true, [], ◌∷◌};
 ghost use Rattle.mb_model.specs.Meaning.{finished};
-ghost use Rattle.mb_model.specs.Nodes.BinaryOperators.{chain_got, chain_row, instance_object, instance_prototype, instance_row, left_got, operate, right_got};
+ghost use Rattle.mb_model.specs.Nodes.BinaryOperators.{chain_got, chain_row, instance_object, instance_prototype};
+ghost use Rattle.mb_model.specs.Nodes.BinaryOperators.{instance_row, left_got, operate, right_got};
 ghost use Rattle.mb_model.specs.Nodes.UnaryOperators.{delete_done, negated, type_word, typeof_value};
 ghost use Rattle.mb_world.proofs.Values.{Apart};
 ghost use Rattle.mb_base.specs.declared.value.Value.TheVariants as TheValue;

@@ -22,10 +22,9 @@ ghost use Rattle.mb_world.specs.Standard.{object_prototype};
 ghost use Rattle.mb_eval_expr.specs.machine.Keeping.{context_held};
 ghost use Rattle.mb_eval_expr.specs.machine.Literals.{Defines, IsDefinitionAt, IsMethodOf, literal_held};
 ghost use Rattle.mb_parts.specs.Standing.{Acts, ContextIn};
-ghost use Rattle.mb_eval_expr.specs.machine.Storing.{Stores};
+ghost use Rattle.mb_parts.specs.Storing.{Stores};
 
 use crate::definitions::{Definition, definition_at, method_desc};
-use crate::elements::open_desc;
 use crate::functions::keyed_function;
 use crate::giving::value;
 use crate::making::make_plain;
@@ -33,7 +32,7 @@ use mb_base::{Fuel, Key, NodeId, ObjId, Side, Value};
 use mb_desc::Desc;
 use mb_frames::{Context, ExprFrame, Frame, Halt, Move, Task, count_of, part_at};
 use mb_ordinary::define;
-use mb_parts::{digits, key_from, throws, type_error};
+use mb_parts::{digits, key_from, open_desc, throws, type_error};
 use mb_tree::PropName;
 use mb_world::{ErrorKind, World};
 

@@ -361,7 +361,7 @@ module _ (d : Data) (n n' : Names) (g : Agrees d n n') where
 
   pub proxy-agrees : (s : ℕ) (y : ProxyFrame) → AreIn d (proxy_held y) → (w : model.Answer)
       → proxy_rest n' s y w ≡ proxy_rest n s y w
-  proxy-agrees s (p.TrapGot side target handler method) h w = rw (g.object target h.0, g.object handler h.1.0, method-agrees target method h.1.1) refl
+  proxy-agrees s (p.TrapGot side target handler method) h w = rw (g.object target h.1.0, g.object handler h.1.1.0, method-agrees target method h.1.1.1) refl
   proxy-agrees s (p.Said target method) h w = rw (g.object target h.0, method-agrees target method h.1) refl
   proxy-agrees s (p.PrototypeExtensible target said) h w = rw (g.object target h.0, g.value said h.1.0) refl
   proxy-agrees s (p.PrototypeRead said) h w = rw (g.value said h.0) refl

@@ -5,7 +5,7 @@ use Rattle.mb_base.specs.declared.value.Side.{Side}
 use Rattle.mb_desc.specs.declared.descriptor.Desc.{Desc}
 use Rattle.mb_desc.specs.declared.descriptor.Full.{Full}
 use Rattle.mb_frames.proofs.Stack.{forms-grow}
-use Rattle.mb_frames.specs.Held.{AreIn, DescIn, Held, HeldArray, HeldBegan, HeldCallable, HeldCollection, HeldConstructor, HeldDesc, HeldEntered, HeldFields, HeldFull, HeldFunction, HeldIn, HeldKey, HeldKeyIf, HeldKeys, HeldNode, HeldNodeIf, HeldObject, HeldPlace, HeldPlain, HeldPrototype, HeldReal, HeldScope, HeldSign, HeldText, HeldTextIf, HeldValue, HeldValues, HeldVisited}
+use Rattle.mb_frames.specs.Held.{AreIn, DescIn, Held, HeldArray, HeldBegan, HeldCallable, HeldCollection, HeldConstructor, HeldDesc, HeldEntered, HeldFields, HeldFull, HeldFunction, HeldIn, HeldKey, HeldKeyIf, HeldKeys, HeldNode, HeldNodeIf, HeldObject, HeldPlace, HeldPlain, HeldPrototype, HeldReal, HeldScope, HeldSide, HeldSign, HeldText, HeldTextIf, HeldValue, HeldValues, HeldVisited}
 use Rattle.mb_frames.specs.Holding.{StackIn, frame_held}
 use Rattle.mb_frames.specs.Kinds.{is_evaluated}
 use Rattle.mb_frames.specs.Standing.{forms_at}
@@ -83,6 +83,7 @@ module _ (d d' : Data) (i : HasItsIds d) (s : StaysFound d d') where
   sound-stays home (HeldPlace place) h k = k
   sound-stays home (HeldBegan began) h k = omega (arith, k, s.entries)
   sound-stays home (HeldEntered id) h k = λ j. s.proxies id home (k (sym s.grew.joined ∙ j))
+  sound-stays home (HeldSide side) h k = (omega (arith, k.0, s.grew.sides), λ j. k.1 (sym s.grew.joined ∙ j))
 
   are-sound : (home : Side) (ys : List Held) → AreIn d ys → AreSound d home ys → AreSound d' home ys
   are-sound home [] h k = k

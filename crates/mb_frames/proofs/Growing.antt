@@ -5,7 +5,7 @@ use Rattle.mb_world.proofs.Grow.{FullIn-grows, KeyIn-grows, Maybe-weaker, ValueI
 use Rattle.std.proofs.Common.{arith}
 use Rattle.std.proofs.Common.{◌++◌, Bool, List, None, Option, Some, [], false, refl, true, ℕ, ◌∷◌}
 use Rattle.mb_desc.specs.declared.descriptor.Desc.{Desc}
-use Rattle.mb_frames.specs.Held.{AreIn, DescIn, Held, HeldArray, HeldBegan, HeldCallable, HeldCollection, HeldConstructor, HeldDesc, HeldEntered, HeldFields, HeldFull, HeldFunction, HeldIn, HeldKey, HeldKeyIf, HeldKeys, HeldNode, HeldNodeIf, HeldObject, HeldPlace, HeldPlain, HeldPrototype, HeldReal, HeldScope, HeldSign, HeldText, HeldTextIf, HeldValue, HeldValues, HeldVisited}
+use Rattle.mb_frames.specs.Held.{AreIn, DescIn, Held, HeldArray, HeldBegan, HeldCallable, HeldCollection, HeldConstructor, HeldDesc, HeldEntered, HeldFields, HeldFull, HeldFunction, HeldIn, HeldKey, HeldKeyIf, HeldKeys, HeldNode, HeldNodeIf, HeldObject, HeldPlace, HeldPlain, HeldPrototype, HeldReal, HeldScope, HeldSide, HeldSign, HeldText, HeldTextIf, HeldValue, HeldValues, HeldVisited}
 use Rattle.mb_frames.specs.Holding.{MachineIn, StackIn, done_held, frame_held, move_held, passage_held, task_held}
 use Rattle.mb_frames.specs.Standing.{Across, Here, Logged, Passage, above, at_home, done_by, left_by, move_of, row_of, under_way}
 use Rattle.mb_frames.specs.Stepping.{HasItsOutcome, IsWait, MayCross, MayPass, Stepped, Written}
@@ -61,6 +61,7 @@ module _ (d d' : Data) (g : Grows d d') where
   held-grows (HeldPlace place) h = h
   held-grows (HeldBegan began) h = h
   held-grows (HeldEntered id) h = omega (arith, h, g.cells_in)
+  held-grows (HeldSide side) h = h
 
   pub are-grown : (ys : List Held) → AreIn d ys → AreIn d' ys
   are-grown [] h = h

@@ -8,7 +8,7 @@ use Rattle.mb_base.specs.declared.value.Value.TheVariants as v
 use Rattle.mb_desc.specs.declared.descriptor.Full.{Full}
 use Rattle.mb_desc.specs.declared.descriptor.Full.TheVariants.{Datum, Accessor}
 use Rattle.mb_frames.proofs.Parts.{each-part, left-part, right-part}
-use Rattle.mb_frames.specs.Held.{Held, HeldArray, HeldBegan, HeldCallable, HeldCollection, HeldConstructor, HeldDesc, HeldEntered, HeldFields, HeldFull, HeldFunction, HeldKey, HeldKeyIf, HeldKeys, HeldNode, HeldNodeIf, HeldObject, HeldPlace, HeldPlain, HeldPrototype, HeldReal, HeldScope, HeldSign, HeldText, HeldTextIf, HeldValue, HeldValues, HeldVisited}
+use Rattle.mb_frames.specs.Held.{Held, HeldArray, HeldBegan, HeldCallable, HeldCollection, HeldConstructor, HeldDesc, HeldEntered, HeldFields, HeldFull, HeldFunction, HeldKey, HeldKeyIf, HeldKeys, HeldNode, HeldNodeIf, HeldObject, HeldPlace, HeldPlain, HeldPrototype, HeldReal, HeldScope, HeldSide, HeldSign, HeldText, HeldTextIf, HeldValue, HeldValues, HeldVisited}
 use Rattle.mb_frames.specs.Ready.{Holds, MayHold}
 use Rattle.mb_frames.specs.Wholeness.{IsConstructor, IsFunctionAt}
 use Rattle.mb_world.specs.Contained.{IsOwn, in_value}
@@ -227,6 +227,7 @@ is_of_no_home (HeldScope scope) = false
 is_of_no_home (HeldNode test node) = false
 is_of_no_home (HeldNodeIf id) = false
 is_of_no_home (HeldEntered id) = false
+is_of_no_home (HeldSide side) = false
 is_of_no_home held = true
 
 module _ (d : Data) (one other : Side) (j : d.joined ≡ true) where
@@ -262,6 +263,7 @@ module _ (d : Data) (one other : Side) (j : d.joined ≡ true) where
   held-anywhere (HeldPlace place) e h = record { within = h.within; sound = h.sound; own = λ u. absurd (never u) }
   held-anywhere (HeldBegan began) e h = record { within = h.within; sound = h.sound; own = λ u. absurd (never u) }
   held-anywhere (HeldEntered id) e h = absurd (true≢false (sym e))
+  held-anywhere (HeldSide side) e h = absurd (true≢false (sym e))
 
   pub all-anywhere : (ys : List Held) → AllByRecursion (λ y. is_of_no_home y ≡ true) ys → Holds d one ys
       → Holds d other ys

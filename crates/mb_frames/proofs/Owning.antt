@@ -8,7 +8,7 @@ use Rattle.mb_desc.specs.declared.descriptor.Full.{Full}
 use Rattle.mb_desc.specs.declared.descriptor.Full.TheVariants.{Datum, Accessor}
 use Rattle.mb_frames.proofs.Growing.{below-in}
 use Rattle.mb_frames.proofs.Parts.{all-both, all-first, same-ends, same-lasts, same-starts}
-use Rattle.mb_frames.specs.Held.{AreIn, DescIn, Held, HeldArray, HeldBegan, HeldCallable, HeldCollection, HeldConstructor, HeldDesc, HeldEntered, HeldFields, HeldFull, HeldFunction, HeldIn, HeldKey, HeldKeyIf, HeldKeys, HeldNode, HeldNodeIf, HeldObject, HeldPlace, HeldPlain, HeldPrototype, HeldReal, HeldScope, HeldSign, HeldText, HeldTextIf, HeldValue, HeldValues, HeldVisited}
+use Rattle.mb_frames.specs.Held.{AreIn, DescIn, Held, HeldArray, HeldBegan, HeldCallable, HeldCollection, HeldConstructor, HeldDesc, HeldEntered, HeldFields, HeldFull, HeldFunction, HeldIn, HeldKey, HeldKeyIf, HeldKeys, HeldNode, HeldNodeIf, HeldObject, HeldPlace, HeldPlain, HeldPrototype, HeldReal, HeldScope, HeldSide, HeldSign, HeldText, HeldTextIf, HeldValue, HeldValues, HeldVisited}
 use Rattle.mb_frames.specs.Holding.{MachineIn, StackIn, done_held, frame_held, move_held, task_held}
 use Rattle.mb_frames.specs.Standing.{Across, Here, Logged, Passage, above, done_by, home_of, left_by, move_of, row_of, under_way}
 use Rattle.mb_frames.specs.Stepping.{MayPass, Stepped, Written}
@@ -100,6 +100,7 @@ module _ (d : Data) where
   of-held (HeldPlace place) h = All-nil (ObjIn d)
   of-held (HeldBegan began) h = All-nil (ObjIn d)
   of-held (HeldEntered id) h = of-id id h
+  of-held (HeldSide side) h = All-nil (ObjIn d)
 
 -- ---- what a home owned it still owns
 

@@ -5,6 +5,7 @@ use Rattle.mb_base.specs.declared.value.Key.{Key}
 use Rattle.mb_base.specs.declared.value.NodeId.{NodeId}
 use Rattle.mb_base.specs.declared.value.ObjId.{ObjId}
 use Rattle.mb_base.specs.declared.value.ScopeId.{ScopeId}
+use Rattle.mb_base.specs.declared.value.Side.{Side}
 use Rattle.mb_base.specs.declared.value.StrId.{StrId}
 use Rattle.mb_desc.specs.declared.descriptor.Desc.{Desc}
 use Rattle.mb_desc.specs.declared.descriptor.Full.{Full}
@@ -54,6 +55,8 @@ pub data Held : Type 0 where
   HeldBegan : ℕ → Held
   -- the object of a method or an access that is to make an entry
   HeldEntered : ObjId → Held
+  -- the side that performs what waits
+  HeldSide : Side → Held
 
 -- ---- each id is one of the world
 
@@ -90,6 +93,7 @@ HeldIn d (HeldReal full) = Maybe (FullIn d) full
 HeldIn d (HeldPlace place) = Unit {0}
 HeldIn d (HeldBegan began) = Unit {0}
 HeldIn d (HeldEntered id) = ObjIn d id
+HeldIn d (HeldSide side) = Unit {0}
 
 -- each id that stands in these is one of the world
 abbrev pub AreIn : Data → List Held → Type 0

@@ -1,7 +1,7 @@
 -- What stands in tasks, in outcomes and in frames, piece by piece, in the order of their parts.
 use Rattle.std.specs.List.{AllByRecursion}
 use Rattle.std.specs.Prelude.{◌++◌, List, None, Option, Some, [], ◌∷◌}
-use Rattle.mb_frames.specs.Held.{AreIn, Held, HeldArray, HeldBegan, HeldCallable, HeldCollection, HeldConstructor, HeldDesc, HeldEntered, HeldFields, HeldFull, HeldFunction, HeldKey, HeldKeyIf, HeldKeys, HeldNode, HeldNodeIf, HeldObject, HeldPlace, HeldPlain, HeldPrototype, HeldReal, HeldScope, HeldSign, HeldText, HeldTextIf, HeldValue, HeldValues, HeldVisited}
+use Rattle.mb_frames.specs.Held.{AreIn, Held, HeldArray, HeldBegan, HeldCallable, HeldCollection, HeldConstructor, HeldDesc, HeldEntered, HeldFields, HeldFull, HeldFunction, HeldKey, HeldKeyIf, HeldKeys, HeldNode, HeldNodeIf, HeldObject, HeldPlace, HeldPlain, HeldPrototype, HeldReal, HeldScope, HeldSide, HeldSign, HeldText, HeldTextIf, HeldValue, HeldValues, HeldVisited}
 use Rattle.mb_frames.specs.Kinds.{is_array_form, is_call_form, is_declaring_form, is_do_form, is_evaluated, is_expression, is_for_form, is_function_form, is_list_form, is_new_form, is_object_form, is_prop_form, is_seq_form, is_try_form, is_while_form}
 use Rattle.mb_frames.specs.Standing.{Across, Here, Passage}
 use Rattle.mb_world.specs.Data.{Data}
@@ -296,7 +296,7 @@ array_held (y.JoinGot object place left separator so_far) = HeldObject object �
 
 abbrev pub proxy_held : ProxyFrame → List Held
 proxy_held (p.TrapGot side target handler method) =
-    HeldObject target ∷ HeldObject handler ∷ method_held target method
+    HeldSide side ∷ HeldObject target ∷ HeldObject handler ∷ method_held target method
 proxy_held (p.Said target method) = HeldObject target ∷ method_held target method
 proxy_held (p.PrototypeExtensible target said) = HeldObject target ∷ HeldPrototype said ∷ []
 proxy_held (p.PrototypeRead said) = HeldPrototype said ∷ []

@@ -17,7 +17,7 @@ use Rattle.mb_desc.specs.Descriptors.{IsOfOneKind}
 use Rattle.mb_desc.specs.View.{View}
 use Rattle.mb_desc.specs.declared.descriptor.Desc.{Desc}
 use Rattle.mb_desc.specs.declared.descriptor.Full.{Full}
-use Rattle.mb_frames.specs.Held.{Held, HeldArray, HeldBegan, HeldCallable, HeldCollection, HeldConstructor, HeldDesc, HeldEntered, HeldFields, HeldFull, HeldKey, HeldKeys, HeldNode, HeldNodeIf, HeldObject, HeldPlace, HeldPlain, HeldPrototype, HeldReal, HeldScope, HeldSign, HeldText, HeldTextIf, HeldValue, HeldValues}
+use Rattle.mb_frames.specs.Held.{Held, HeldArray, HeldBegan, HeldCallable, HeldCollection, HeldConstructor, HeldDesc, HeldEntered, HeldFields, HeldFull, HeldKey, HeldKeys, HeldNode, HeldNodeIf, HeldObject, HeldPlace, HeldPlain, HeldPrototype, HeldReal, HeldScope, HeldSide, HeldSign, HeldText, HeldTextIf, HeldValue, HeldValues}
 use Rattle.mb_frames.specs.Holding.{MachineIn, done_held, frame_held, move_held}
 use Rattle.mb_frames.specs.Kinds.{is_evaluated}
 use Rattle.mb_frames.specs.Sorts.{AreLinked, IsOfSort, Sort, fits, frame_sort, stack_sort}
@@ -120,6 +120,7 @@ IsSound d home (HeldReal full) = Maybe (IsProperty d) full
 IsSound d home (HeldPlace place) = intrinsic place ≢ None
 IsSound d home (HeldBegan began) = began ≤ length d.entries
 IsSound d home (HeldEntered id) = d.joined ≡ false → IsProxyAt d home id
+IsSound d home (HeldSide side) = (side.0 < d.sides) × (d.joined ≡ false → side ≡ home)
 
 abbrev pub AreSound : Data → Side → List Held → Type 0
 AreSound d home held = AllByRecursion (IsSound d home) held
@@ -250,6 +251,7 @@ in_held (HeldReal full) = in_option in_full full
 in_held (HeldPlace place) = []
 in_held (HeldBegan began) = []
 in_held (HeldEntered id) = id ∷ []
+in_held (HeldSide side) = []
 
 -- what stands in something of that home
 abbrev pub AreOwn : Data → Side → List Held → Type 0

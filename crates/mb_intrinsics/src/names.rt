@@ -15,7 +15,7 @@ use mb_base::{NoMemory, Side, StrId, Value};
 use mb_world::{Bound, Names, Scope, World, name_of};
 
 // The built-ins that have a name in the first scope of a side, in the order of these names.
-static BOUND: [u16; 16] = [
+static BOUND: [u16; 13] = [
     PRINT,
     LATER,
     LABELLED,
@@ -29,9 +29,6 @@ static BOUND: [u16; 16] = [
     RANGE_ERROR,
     REFERENCE_ERROR,
     SYMBOL,
-    MAP,
-    SET,
-    WEAK_MAP,
 ];
 
 /// Makes a scope of the built-in names for a side, with no scope around it: each name has the side's own built-in as

@@ -106,9 +106,9 @@ fn in_a_joined_world_one_set_serves_both(rt: HostRuntime) {
 fn names_are_bound(rt: HostRuntime) {
     let mut w = apart(&rt, rt.alloc(), 2);
     assert_eq!(rt;
-        named(&rt, &mut w, Side::RIGHT, 15),
-        (17, Some(object(139)))
+        named(&rt, &mut w, Side::RIGHT, 12),
+        (14, Some(object(135)))
     );
-    assert_eq!(rt; named(&rt, &mut w, Side::LEFT, 16), (17, Some(object(160))));
+    assert_eq!(rt; named(&rt, &mut w, Side::LEFT, 13), (14, Some(object(160))));
     assert_eq!(rt; w.scopes(), 2);
 }

@@ -1,5 +1,6 @@
 -- An array of a ready world has its `length`.
-use Rattle.std.proofs.Common.{◌<◌, ◌-◌, ◌^◌, ◌≡◌, ◌∙◌, ◌∷◌, Bool, List, Some, [], ap, false, pos, refl, slice_get, sym, true, ℕ, subst, true≢false}
+use Rattle.std.proofs.Common.{◌<◌, ◌-◌, ◌^◌, ◌≡◌, ◌∙◌, ◌∷◌, Bool, List, Some, [], ap, false, pos, refl, slice_get, sym}
+use Rattle.std.proofs.Common.{true, ℕ, subst, true≢false}
 use Rattle.std.proofs.lemmas.Bool.{eq-eqb}
 use Rattle.std.proofs.lemmas.List.Elements.{All-cons, All-head}
 use Rattle.std.proofs.lemmas.Option.{slice_get-get_or}

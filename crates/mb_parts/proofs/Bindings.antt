@@ -1,5 +1,7 @@
 -- Names that are given values, in a world and in its image.
-use Rattle.std.proofs.Common.{◌&&◌, ◌+◌, ◌≡◌, ◌∙◌, ◌∷◌, Bool, List, None, Option, Some, [], ap, arith, cond, false, length, map, nat_eq, nat_lt, option_map, refl, slice_get, slice_index_or, slice_set, sym, true, true≢false, ℕ}
+use Rattle.std.proofs.Common.{◌&&◌, ◌+◌, ◌≡◌, ◌∙◌, ◌∷◌, Bool, List, None, Option, Some, [], ap, arith, cond, false}
+use Rattle.std.proofs.Common.{length, map, nat_eq, nat_lt, option_map, refl, slice_get, slice_index_or, slice_set, sym}
+use Rattle.std.proofs.Common.{true, true≢false, ℕ}
 use Rattle.std.proofs.lemmas.Bool.{eq-eqb, eqb-true}
 use Rattle.std.proofs.lemmas.List.Elements.{All-head, All-tail}
 use Rattle.std.proofs.lemmas.List.{length-map, map-set}
@@ -11,13 +13,15 @@ use Rattle.mb_base.specs.declared.value.StrId.{StrId}
 use Rattle.mb_base.specs.declared.value.Value.{Value}
 use Rattle.mb_frames.proofs.Steps.{Grew-same}
 use Rattle.mb_frames.specs.Going.{WentOn}
-use Rattle.mb_model.specs.Nodes.Scopes.{bind_with, binding_at, binding_in as binding_in_scope, giving, initialize, is_given, or_above, own_place, scopes_with, unless_given}
+use Rattle.mb_model.specs.Nodes.Scopes.{bind_with, binding_at, binding_in as binding_in_scope, giving, initialize}
+use Rattle.mb_model.specs.Nodes.Scopes.{is_given, or_above, own_place, scopes_with, unless_given}
 use Rattle.mb_model.specs.Task.{Answer, Nothing}
 use Rattle.mb_parts.specs.Scopes.{is_bound}
 use Rattle.mb_text.proofs.WithText.{one_place}
 use Rattle.mb_text.specs.Texts.{AreDistinct, text_at}
 use Rattle.mb_world.proofs.AfterCalls.{of-changed-scope}
-use Rattle.mb_world.specs.Data.{Data, change_scope, give_at, give_if, given_value, giving as world-giving, has_name, scope_at}
+use Rattle.mb_world.specs.Data.{Data, change_scope, give_at, give_if, given_value, giving as world-giving, has_name}
+use Rattle.mb_world.specs.Data.{scope_at}
 use Rattle.mb_world.specs.Graph as graph
 use Rattle.mb_world.specs.Graph.{Binding, Graph, Item}
 use Rattle.mb_world.specs.Ids.{BoundIn, TextIn}
@@ -161,8 +165,8 @@ given-there d id s place log e =
     ∙ bound-there (names_of d) (slice_get s.names place)
 
 -- read anew
-pub bound-anew : (d : Data) (id : ScopeId) (s t : Scope) (place : ℕ) (o : Option Bound) (b bound : Bool) → scope_at d id ≡ Some s
-    → scope_at d id ≡ Some t → o ≡ slice_get t.names place → b ≡ is_bound o → b ≡ bound
+pub bound-anew : (d : Data) (id : ScopeId) (s t : Scope) (place : ℕ) (o : Option Bound) (b bound : Bool)
+    → scope_at d id ≡ Some s → scope_at d id ≡ Some t → o ≡ slice_get t.names place → b ≡ is_bound o → b ≡ bound
     → is_bound (slice_get s.names place) ≡ bound
 bound-anew d id s t place o b bound e f p q r =
     let both : Some s ≡ Some t = sym e ∙ f in
@@ -170,13 +174,15 @@ bound-anew d id s t place o b bound e f p q r =
     ap (λ (x : Scope). is_bound (slice_get x.names place)) same ∙ ap is_bound (sym p) ∙ sym q ∙ r
 
 -- the place to give it at
-place-open : (d : Data) (id : ScopeId) (s : Scope) (x : StrId) (place : ℕ) (bound : Bool) (log : List Item) → AreDistinct d.texts
-    → TextIn d x → All (BoundIn d) s.names → scope_at d id ≡ Some s → position (has_name x) s.names ≡ Some place
+place-open : (d : Data) (id : ScopeId) (s : Scope) (x : StrId) (place : ℕ) (bound : Bool)
+    (log : List Item) → AreDistinct d.texts → TextIn d x → All (BoundIn d) s.names → scope_at d id ≡ Some s
+    → position (has_name x) s.names ≡ Some place
     → is_bound (slice_get s.names place) ≡ bound
     → unless_given (Image d log) (own_place id.0 (text_in (names_of d) x) (slice_get (Image d log).scopes id.0))
     ≡ (if bound then None else Some (id.0, place))
 place-open d id s x place bound log a h b e p q =
-    ap (unless_given (Image d log)) (place-there d id s x log a h b e ∙ ap (λ (o : Option ℕ). or_above id.0 o None (λ p. None)) p)
+    ap (unless_given (Image d log)) (place-there d id s x log a h b e
+    ∙ ap (λ (o : Option ℕ). or_above id.0 o None (λ p. None)) p)
     ∙ ap (λ (c : Bool). if c then None else Some (id.0, place)) (given-there d id s place log e ∙ q)
 
 pub name-given : (d d' : Data) (id : ScopeId) (s : Scope) (x : StrId) (y : Value) (place : ℕ) → AreDistinct d.texts
@@ -221,7 +227,8 @@ name-missing d id s x y a h b e p = record {
   units = 0;
   paid = omega arith;
   same = λ k log.
-      ap (λ (o : Option (ℕ × ℕ)). k Nothing (giving (unless_given (Image d log) o) (Resolve (names_of d) y) (Image d log)))
+      ap (λ (o : Option (ℕ × ℕ)).
+      k Nothing (giving (unless_given (Image d log) o) (Resolve (names_of d) y) (Image d log)))
       (place-there d id s x log a h b e ∙ ap (λ (o : Option ℕ). or_above id.0 o None (λ p. None)) p);
   trace = refl;
   grew = Grew-same d;

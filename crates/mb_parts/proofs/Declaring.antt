@@ -1,5 +1,6 @@
 -- The functions of declarations are made in turn, and given to their names.
-use Rattle.std.proofs.Common.{ap, ◌+◌, ◌<◌, ◌≡◌, ◌≤◌, ◌∙◌, ◌∷◌, Err, List, None, Ok, Option, Result, Some, [], arith, drop, length, refl, slice_get, subst, sym, true, ℕ, false}
+use Rattle.std.proofs.Common.{ap, ◌+◌, ◌<◌, ◌≡◌, ◌≤◌, ◌∙◌, ◌∷◌, Err, List, None, Ok, Option, Result, Some, [], arith}
+use Rattle.std.proofs.Common.{drop, length, refl, slice_get, subst, sym, true, ℕ, false}
 use Rattle.std.proofs.Math.ListN.{drop_of_length-le}
 use Rattle.std.proofs.lemmas.List.Elements.{All-nil}
 use Rattle.std.specs.Prelude.{suc}

@@ -1,5 +1,6 @@
 -- The names that the scope of a node binds are distinct, but for the name of its own that a function expression has.
-use Rattle.std.proofs.Common.{None, Option, Some, ap, is_some, nat_eq, refl, slice_get, subst, sym, true, true≢false, ◌∙◌, ◌≡◌}
+use Rattle.std.proofs.Common.{None, Option, Some, ap, is_some, nat_eq, refl, slice_get, subst, sym, true, true≢false}
+use Rattle.std.proofs.Common.{◌∙◌, ◌≡◌}
 use Rattle.std.specs.List.{IsDistinct}
 use Rattle.std.specs.Option.{option_map}
 use Rattle.mb_base.specs.declared.value.NodeId.{NodeId}

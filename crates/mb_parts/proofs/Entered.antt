@@ -1,5 +1,7 @@
 -- Scopes that are entered, in a world and in its image: a unit for each name.
-use Rattle.std.proofs.Common.{◌+◌, ◌++◌, ◌<◌, ◌≡◌, ◌∙◌, ◌∷◌, Bool, List, None, Ok, Err, Option, Some, [], ap, arith, false, length, map, nat_eq, refl, slice_get, slice_index_or, subst, suc, sym, take, true, zero, ℕ}
+use Rattle.std.proofs.Common.{◌+◌, ◌++◌, ◌<◌, ◌≡◌, ◌∙◌, ◌∷◌, Bool, List, None, Ok, Err, Option, Some, [], ap, arith}
+use Rattle.std.proofs.Common.{false, length, map, nat_eq, refl, slice_get, slice_index_or, subst, suc, sym, take, true}
+use Rattle.std.proofs.Common.{zero, ℕ}
 use Rattle.std.proofs.lemmas.List.Elements.{All-filter, All-map, All-nil, All-weaker}
 use Rattle.std.proofs.lemmas.List.{length-map}
 use Rattle.std.specs.Prelude.{All}

@@ -1,5 +1,6 @@
 -- The length of an array, and what storing an element makes of it.
-use Rattle.std.proofs.Common.{◌+◌, ◌<◌, ◌^◌, ◌≡◌, ◌≤◌, ◌∙◌, ◌∷◌, ◌&&◌, Bool, List, None, Option, Some, ap, arith, false, nat_le, not, pos, refl, sym, true, true≢false, ℕ}
+use Rattle.std.proofs.Common.{◌+◌, ◌<◌, ◌^◌, ◌≡◌, ◌≤◌, ◌∙◌, ◌∷◌, ◌&&◌, Bool, List, None, Option, Some, ap, arith, false}
+use Rattle.std.proofs.Common.{nat_le, not, pos, refl, sym, true, true≢false, ℕ}
 use Rattle.std.proofs.lemmas.Bool.Decides.{nat_tests}
 use Rattle.std.specs.Prelude.{All, if◌then◌else◌, max}
 use Rattle.mb_base.specs.declared.value.Key.TheVariants as k
@@ -81,13 +82,16 @@ stored-as t i L w X a b e h =
     by false c true s None q g = (let z : Refused ≡ BecomesThing a b = sym (rw (c, s, q) refl) ∙ g in cc)
     by false c false s None q g = (let z : Refused ≡ BecomesThing a b = sym (rw (c, s, q) refl) ∙ g in cc)
     by true c true s (Some p) q g =
-        (let z : BecomesThing (with_length (max L (i + 1)) w (with_property (index_key i) p t)) true ≡ BecomesThing a b = sym (rw (c, s, q) refl) ∙ g in
+        (let z : BecomesThing (with_length (max L (i + 1)) w (with_property (index_key i) p t)) true ≡ BecomesThing a b
+        = sym (rw (c, s, q) refl) ∙ g in
         let y : with_length (max L (i + 1)) w (with_property (index_key i) p t) ≡ a = cc in (p, q, sym y, λ l. s))
     by false c true s (Some p) q g =
-        (let z : BecomesThing (with_length (max L (i + 1)) w (with_property (index_key i) p t)) true ≡ BecomesThing a b = sym (rw (c, s, q) refl) ∙ g in
+        (let z : BecomesThing (with_length (max L (i + 1)) w (with_property (index_key i) p t)) true ≡ BecomesThing a b
+        = sym (rw (c, s, q) refl) ∙ g in
         let y : with_length (max L (i + 1)) w (with_property (index_key i) p t) ≡ a = cc in (p, q, sym y, λ l. s))
     by false c false s (Some p) q g =
-        (let z : BecomesThing (with_length (max L (i + 1)) w (with_property (index_key i) p t)) true ≡ BecomesThing a b = sym (rw (c, s, q) refl) ∙ g in
+        (let z : BecomesThing (with_length (max L (i + 1)) w (with_property (index_key i) p t)) true ≡ BecomesThing a b
+        = sym (rw (c, s, q) refl) ∙ g in
         let y : with_length (max L (i + 1)) w (with_property (index_key i) p t) ≡ a = cc in
         (p, q, sym y, λ l. absurd (true≢false (sym l ∙ c))))
 

@@ -1,5 +1,6 @@
 -- A name of a scope that is given a value keeps a world ready.
-use Rattle.std.proofs.Common.{◌≡◌, ◌∷◌, List, None, Ok, Option, Some, [], false, nat_eq, refl, slice_get, slice_set, subst, suc, zero, ℕ}
+use Rattle.std.proofs.Common.{◌≡◌, ◌∷◌, List, None, Ok, Option, Some, [], false, nat_eq, refl, slice_get, slice_set}
+use Rattle.std.proofs.Common.{subst, suc, zero, ℕ}
 use Rattle.std.proofs.lemmas.List.Elements.{All-append, All-cons, All-nil, All-set}
 use Rattle.std.specs.List.{AllByRecursion, IsDistinct, flat_map}
 use Rattle.std.specs.Prelude.{All}

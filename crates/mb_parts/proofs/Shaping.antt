@@ -1,5 +1,6 @@
 -- What can be called and what constructs, of the cells behind ids.
-use Rattle.std.proofs.Common.{Bool, List, None, Option, Some, [], ap, option_map, refl, map, slice_get, sym, true, true≢false, ℕ, ◌∙◌, ◌≡◌}
+use Rattle.std.proofs.Common.{Bool, List, None, Option, Some, [], ap, option_map, refl, map, slice_get, sym, true}
+use Rattle.std.proofs.Common.{true≢false, ℕ, ◌∙◌, ◌≡◌}
 use Rattle.mb_base.specs.declared.value.ObjId.{ObjId}
 use Rattle.mb_base.specs.declared.value.Value.{Value}
 use Rattle.mb_world.proofs.AfterCalls.{of-cell}
@@ -7,13 +8,15 @@ use Rattle.mb_world.specs.declared.cell.Cell.{Cell}
 use Rattle.mb_world.specs.declared.cell.CellKind.{CellKind}
 use Rattle.mb_world.specs.declared.cell.CellKind.TheVariants as k
 use Rattle.mb_world.specs.declared.cell.Shape.{Shape}
-use Rattle.mb_world.specs.Data.{AtPlace, Before, Counted, Data, Hidden, Stand, cell_at, is_counted, is_object_cell, kind_stand, stand}
+use Rattle.mb_world.specs.Data.{AtPlace, Before, Counted, Data, Hidden, Stand, cell_at, is_counted, is_object_cell}
+use Rattle.mb_world.specs.Data.{kind_stand, stand}
 use Rattle.mb_frames.specs.Real.{IsRealKind}
 use Rattle.mb_parts.specs.machine.Marks.{mark_of}
 use Rattle.mb_world.specs.Graph.{Item, Kind, Standard}
 use Rattle.mb_world.specs.Image.{Image, Names, kind_in, names_of, object_in, stood}
 use Rattle.mb_world.specs.Intrinsics.{Intrinsic, intrinsic, intrinsics}
-use Rattle.mb_world.specs.Objects.{intrinsic_is, kind_calls, kind_constructs, shape_calls, shape_constructs, thing_at, thing_is}
+use Rattle.mb_world.specs.Objects.{intrinsic_is, kind_calls, kind_constructs, shape_calls, shape_constructs, thing_at}
+use Rattle.mb_world.specs.Objects.{thing_is}
 use Rattle.mb_world.specs.Standard.{calls, constructs, standard, standard_at}
 use Rattle.std.proofs.lemmas.Option.{slice_get-map}
 

@@ -21,7 +21,8 @@ use Rattle.mb_view.specs.Views.{Evolves}
 use Rattle.mb_world.proofs.Grow.{All-at}
 use Rattle.mb_world.specs.Contained.{IsOwn, in_cell, in_full, in_kind, in_option, in_pair, in_value}
 use Rattle.mb_world.specs.Data.{Data, cell_at, change_cell, set_cell}
-use Rattle.mb_world.specs.Formed.{FormedCell, HasItsCallables, HasItsSlots, InRange, IsArray, cell_values, full_values, is_of_membrane, kind_values, pair_values}
+use Rattle.mb_world.specs.Formed.{FormedCell, HasItsCallables, HasItsSlots, InRange, IsArray, cell_values, full_values}
+use Rattle.mb_world.specs.Formed.{is_of_membrane, kind_values, pair_values}
 use Rattle.mb_world.specs.Ids.{CellIn, PropertyIn}
 use Rattle.mb_world.specs.Image.{Names, names_of}
 use Rattle.mb_world.specs.Key as graph

@@ -1,5 +1,6 @@
 -- Tables of properties: one that is put, two that stand for the same, and one of a world in which one cell changed.
-use Rattle.std.proofs.Common.{length, ◌≡◌, ◌∙◌, ◌∷◌, Bool, List, Some, [], ap, arith, false, map, refl, subst, sym, true}
+use Rattle.std.proofs.Common.{length, ◌≡◌, ◌∙◌, ◌∷◌, Bool, List, Some, [], ap, arith, false, map, refl, subst, sym}
+use Rattle.std.proofs.Common.{true}
 use Rattle.std.proofs.lemmas.List.Elements.{All-contains, All-head, All-tail}
 use Rattle.std.proofs.lemmas.List.{length-set}
 use Rattle.std.specs.Prelude.{All, Contains, if◌then◌else◌}

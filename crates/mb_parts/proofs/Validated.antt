@@ -7,7 +7,8 @@ use Rattle.mb_base.specs.declared.value.ObjId.{ObjId}
 use Rattle.mb_base.specs.declared.value.Side.{Side}
 use Rattle.mb_base.specs.declared.value.Value.TheVariants as v
 use Rattle.mb_base.specs.declared.value.Value.{Value}
-use Rattle.mb_desc.specs.Descriptors.{Complete, has_no_fields, is_accessor_descriptor, is_configurable, is_data_descriptor}
+use Rattle.mb_desc.specs.Descriptors.{Complete, has_no_fields, is_accessor_descriptor, is_configurable}
+use Rattle.mb_desc.specs.Descriptors.{is_data_descriptor}
 use Rattle.mb_desc.specs.Validate.{Applied, Validate, refuses}
 use Rattle.mb_desc.specs.Values.{equal}
 use Rattle.mb_desc.specs.declared.descriptor.Desc.{Desc}

@@ -139,10 +139,12 @@ module _ (n : Names) (c : Cell) where
       → Evolves graph.same_key key_sort (cell_view n c) (cell_view n (with_props ps c))
   defined-evolves k desc p ps h one allowed same =
       let qs = map (property_in n) c.props in
-      let value : Validate same_value Undefined c.extensible (lookup (graph.same_key k) (cell_view n c).properties) desc ≡ Some p
+      let value : Validate same_value Undefined c.extensible (lookup (graph.same_key k) (cell_view n c).properties) desc
+      ≡ Some p
       = ap (λ o. Validate same_value Undefined c.extensible o desc)
       (ap (lookup (graph.same_key k)) (view-pairs n c.props) ∙ find-pairs k qs) ∙ allowed in
-      let after : (cell_view n (with_props ps c)).properties ≡ insert_entry graph.same_key (cell_view n c).properties k p
+      let after : (cell_view n (with_props ps c)).properties
+      ≡ insert_entry graph.same_key (cell_view n c).properties k p
       = view-pairs n ps ∙ ap (λ (t : Thing). pairs t.properties) (sym same) ∙ put-pairs k p qs
       ∙ ap (λ zs. insert_entry graph.same_key zs k p) (sym (view-pairs n c.props)) in
       changes-evolve (Define k desc p ∷ []) (with_props ps c) h ((one, value), tt)

@@ -3,7 +3,8 @@ use Rattle.mb_frames.proofs.Forms.{CanRun-grows}
 use Rattle.mb_frames.specs.Passing.{TextsGrew}
 use Rattle.mb_frames.specs.Stepping.{Grew}
 use Rattle.mb_parts.specs.Standing.{Acts}
-use Rattle.std.proofs.Common.{◌+◌, ◌++◌, ◌/◌, ◌%◌, ◌<◌, ◌≤◌, ◌^◌, List, Some, [], ap, arith, false, map, subst, nat_lt, negsuc, pos, refl, slice_get, suc, sym, true, zero, ℕ, ℤ, ◌∙◌, ◌∷◌, ◌≡◌}
+use Rattle.std.proofs.Common.{◌+◌, ◌++◌, ◌/◌, ◌%◌, ◌<◌, ◌≤◌, ◌^◌, List, Some, [], ap, arith, false, map, subst, nat_lt}
+use Rattle.std.proofs.Common.{negsuc, pos, refl, slice_get, suc, sym, true, zero, ℕ, ℤ, ◌∙◌, ◌∷◌, ◌≡◌}
 use Rattle.std.proofs.lemmas.Bool.Decides.{nat_tests}
 use Rattle.std.proofs.lemmas.Fmt.{decimal_by_steps}
 use Rattle.std.specs.Fmt.{decimal as std_decimal, signed_decimal}

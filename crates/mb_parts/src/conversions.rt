@@ -1,5 +1,5 @@
 // Values as truth values, as texts and as keys (ECMA-262, 7.1).
-ghost use Rattle.std.specs.Prelude.{◌≡◌, ◌≤◌, ◌^◌, IfOk, OnErr, OnOk, Some, length, option_map, slice_get};
+ghost use Rattle.std.specs.Prelude.{◌≡◌, ◌≤◌, ◌^◌, IfOk, OnErr, OnOk, Some, length, option_map};
 ghost use Rattle.mb_world.specs.Ids.{HasItsIds, KeyIn, Maybe, TextIn, ValueIn};
 ghost use Rattle.mb_world.specs.Image.{Resolve, key_in, names_of, text_in};
 ghost use Rattle.mb_world.specs.Key.{key_of};

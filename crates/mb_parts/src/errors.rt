@@ -1,5 +1,5 @@
 // Errors that rows throw (ECMA-262, 20.5).
-ghost use Rattle.std.specs.Prelude.{◌≡◌, ℕ, []};
+ghost use Rattle.std.specs.Prelude.{ℕ, []};
 ghost use Rattle.mb_model.specs.Meaning.{finished};
 ghost use Rattle.mb_model.specs.Writing.{fail as fail_row};
 ghost use Rattle.mb_frames.specs.Passing.{Part};

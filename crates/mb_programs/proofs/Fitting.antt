@@ -4,26 +4,44 @@ use Rattle.mb_base.specs.declared.value.StrId.{StrId}
 use Rattle.mb_frames.specs.Grammatical.{ArePartsOfFunction, HasItsParts, IsKey}
 use Rattle.mb_frames.specs.Kinds.{Declared, Expression, NodeSort, Parameter, PropertyDefinition, Statement}
 use Rattle.mb_grammar.specs.Grammar as g
-use Rattle.mb_grammar.specs.Grammar.{Bodies, absent, and_also, array, arrow_block, arrow_value, assign, before, behind, binary, block, break, call, catch_all, catch_named, compound, cond, const, continue, declaration, declared, declared_as, do_while, elements, elements_comma, empty, expression, finally, finished, first_expression, first_lets, for_loop, function, getter, group, if_else, if_then, index, key_computed, key_number, key_text, key_word, last_declared, last_of, last_property, left_call, left_new, let_statement, lets, lift, literal, made, maker_of, member, method, name_of, negative, new_args, new_member, new_new, no_catch, no_finally, no_property, nothing, number, object, or, present, properties, properties_comma, returns, returns_with, seq, setter, shorthand, statement, sub, sub_block, text, then_declared, then_of, then_property, this, throw, try, unary, unnamed, valued, while_do, with_name}
+use Rattle.mb_grammar.specs.Grammar.{Bodies, absent, and_also, array, arrow_block, arrow_value, assign, before}
+use Rattle.mb_grammar.specs.Grammar.{behind, binary, block, break, call, catch_all, catch_named, compound, cond}
+use Rattle.mb_grammar.specs.Grammar.{const, continue, declaration, declared, declared_as, do_while, elements}
+use Rattle.mb_grammar.specs.Grammar.{elements_comma, empty, expression, finally, finished, first_expression}
+use Rattle.mb_grammar.specs.Grammar.{first_lets, for_loop, function, getter, group, if_else, if_then, index}
+use Rattle.mb_grammar.specs.Grammar.{key_computed, key_number, key_text, key_word, last_declared, last_of}
+use Rattle.mb_grammar.specs.Grammar.{last_property, left_call, left_new, let_statement, lets, lift, literal, made}
+use Rattle.mb_grammar.specs.Grammar.{maker_of, member, method, name_of, negative, new_args, new_member, new_new}
+use Rattle.mb_grammar.specs.Grammar.{no_catch, no_finally, no_property, nothing, number, object, or, present}
+use Rattle.mb_grammar.specs.Grammar.{properties, properties_comma, returns, returns_with, seq, setter, shorthand}
+use Rattle.mb_grammar.specs.Grammar.{statement, sub, sub_block, text, then_declared, then_of, then_property, this}
+use Rattle.mb_grammar.specs.Grammar.{throw, try, unary, unnamed, valued, while_do, with_name}
 use Rattle.mb_grammar.specs.Labels.{made_label, one_part, param}
 use Rattle.mb_grammar.specs.Nonterminals.{Nonterminal}
 use Rattle.mb_grammar.specs.Parts as w
-use Rattle.mb_grammar.specs.Parts.{Head, MakerParams, Names, Params, WordText, last_name, many, name_and, no_params, of_function, of_getter, of_method, of_setter, one, params, params_comma}
-use Rattle.mb_grammar.specs.Tokens.{Place, RoleAt, TokenAt, Tokens, token_at}
+use Rattle.mb_grammar.specs.Parts.{Head, MakerParams, Names, Params, WordText, last_name, many, name_and, no_params}
+use Rattle.mb_grammar.specs.Parts.{of_function, of_getter, of_method, of_setter, one, params, params_comma}
+use Rattle.mb_grammar.specs.Tokens.{Place, RoleAt, Tokens}
 use Rattle.mb_grammar.specs.declared.function.Maker.{Maker}
 use Rattle.mb_grammar.specs.declared.function.Property.{Property}
 use Rattle.mb_grammar.specs.declared.role.Role.TheVariants as r
 use Rattle.mb_programs.proofs.Holding.{AreIn, TokenIn, at-role, at-token}
-use Rattle.mb_programs.proofs.Placing.{AllFit, CaughtIf, Fits, IsFirst, IsOfSort, OneIf, Placed, a_part, all_caught, declared-fits, fit, for-fits, join-fit, mapped, no_part, none_caught, one_caught, parts-of, placed-all, to, try-fits}
-use Rattle.mb_programs.proofs.Sorts.{AllOf, block-sort, declarations-sorts, elements-sorts, head-sorts, lets-sort, listed-sorts, maker-params-sorts, params-sorts, properties-sorts, sort_of, stands-sort, statements-sorts, sub-sort}
+use Rattle.mb_programs.proofs.Optional.{caught-of, finally-one, first-one, perhaps-one}
+use Rattle.mb_programs.proofs.Placing.{AllFit, Fits, Placed, declared-fits, fit, for-fits, join-fit, mapped, parts-of}
+use Rattle.mb_programs.proofs.Placing.{placed-all, to, try-fits}
+use Rattle.mb_programs.proofs.Sorts.{AllOf, block-sort, declarations-sorts, elements-sorts, head-sorts}
+use Rattle.mb_programs.proofs.Sorts.{listed-sorts, maker-params-sorts, params-sorts, properties-sorts, sort_of}
+use Rattle.mb_programs.proofs.Sorts.{stands-sort, statements-sorts, sub-sort}
 use Rattle.mb_token.specs.declared.token.Token.{Token}
 use Rattle.mb_token.specs.declared.token.Token.TheVariants as t
-use Rattle.mb_tree.specs.Form.{ArrayForm, ArrowForm, Computed, Form, FunctionForm, FunctionParts, GetterForm, MethodForm, ObjectForm, PropName, SetterForm, ValueForm, Whole, Written, form_of, key_and_rest, method_form, value_form}
-use Rattle.mb_tree.specs.Roses.{Label, Rose, Roses, Shape, id_of, join, more, node, none, root, roots, shape, size, write}
+use Rattle.mb_tree.specs.Form.{ArrayForm, ArrowForm, Computed, Form, FunctionForm, FunctionParts, GetterForm}
+use Rattle.mb_tree.specs.Form.{MethodForm, ObjectForm, PropName, SetterForm, Whole, Written, form_of, key_and_rest}
+use Rattle.mb_tree.specs.Form.{method_form, value_form}
+use Rattle.mb_tree.specs.Roses.{Rose, Roses, Shape, id_of, join, more, none, root, roots, shape, size, write}
 use Rattle.mb_tree.specs.declared.kind.Kind.{Kind}
 use Rattle.mb_world.specs.Ids.{Maybe}
 use Rattle.std.proofs.lemmas.List.Elements.{All-nil}
-use Rattle.std.proofs.Common.{Bool, List, None, Option, Some, inl, inr, refl, subst, ℕ, false, true, ◌+◌, ◌<◌, ◌≡◌}
+use Rattle.std.proofs.Common.{Bool, List, None, Option, Some, refl, ℕ, false, true, ◌+◌, ◌<◌, ◌≡◌}
 
 abbrev NameIn : ℕ → StrId → Type 0
 NameIn n id = id.0 < n
@@ -66,7 +84,8 @@ module _ (P : NodeSort → NodeId → Type 0) (n : ℕ) {ts : Tokens} (h : AreIn
       (λ x z. own (Whole y) x tt (parts-of P Statement (roots out (join ps body)) ps body u v k x z))
   method-fits (key_computed {a = a} q1 q2 q3) make kind ps body own u v out k f e =
       mapped P (make (Computed (id_of (root out a)))) _ f e
-      (λ x z. own (Computed (id_of (root out a))) x (to P (sort_of a) Expression (id_of (root out a)) (stands-sort q2) k.0)
+      (λ x z. own (Computed (id_of (root out a))) x
+      (to P (sort_of a) Expression (id_of (root out a)) (stands-sort q2) k.0)
       (parts-of P Statement (roots (write out a) (join ps body)) ps body u v k.1 x z))
 
   value-fits : {p : Property} {keys : Roses} {ds es : Bodies} {i j : Place} → g.KeyOf ts p keys ds es i j
@@ -97,9 +116,11 @@ module _ (P : NodeSort → NodeId → Type 0) (n : ℕ) {ts : Tokens} (h : AreIn
       → form_of (shape (made_label maker (size ps)) (roots out (join keys (join ps body)))) ≡ Some f
       → HasItsParts P f
   made-parts {ps = ps} (unnamed q) z body v out k f e =
-      mapped P (FunctionForm None) _ f e (parts-of P Statement (roots out (join ps body)) ps body (maker-params-sorts z) v k)
+      mapped P (FunctionForm None) _ f e
+      (parts-of P Statement (roots out (join ps body)) ps body (maker-params-sorts z) v k)
   made-parts {ps = ps} (with_name {n = x} q1 q2) z body v out k f e =
-      mapped P (FunctionForm (Some x)) _ f e (parts-of P Statement (roots out (join ps body)) ps body (maker-params-sorts z) v k)
+      mapped P (FunctionForm (Some x)) _ f e
+      (parts-of P Statement (roots out (join ps body)) ps body (maker-params-sorts z) v k)
   made-parts {ps = ps} (method q) z body v out k f e =
       method-fits q MethodForm _ ps body (λ key x a b. (a, b)) (maker-params-sorts z) v out k f e
   made-parts (getter q1 q2) of_getter body v out k f e =
@@ -131,26 +152,6 @@ module _ (P : NodeSort → NodeId → Type 0) (n : ℕ) {ts : Tokens} (h : AreIn
   head-fit : {parts : Roses} {i j : Place} → Head ts parts i j → AllFit P n parts
   head-fit (one q1) = (param-fits q1, tt)
   head-fit (many q1 q2 q3) = params-fit q2
-
-  -- ---- parts that may be left out
-
-  perhaps-one : {b : Bool} {parts : Roses} {i j : Place} → g.Perhaps ts b parts i j → OneIf (IsOfSort Expression) b parts
-  perhaps-one absent = no_part
-  perhaps-one (present q) = a_part (stands-sort q)
-
-  first-one : {b : Bool} {parts : Roses} {i j : Place} → g.ForFirst ts b parts i j → OneIf IsFirst b parts
-  first-one (first_lets q) = a_part (inr (lets-sort q))
-  first-one (first_expression absent) = no_part
-  first-one (first_expression (present q)) = a_part (inl (stands-sort q))
-
-  finally-one : {b : Bool} {parts : Roses} {i j : Place} → g.Finally ts b parts i j → OneIf (IsOfSort Statement) b parts
-  finally-one no_finally = no_part
-  finally-one (finally q1 q2) = a_part (block-sort q2)
-
-  caught-of : {b c : Bool} {parts : Roses} {i j : Place} → g.Caught ts b c parts i j → CaughtIf b c parts
-  caught-of no_catch = none_caught
-  caught-of (catch_all q1 q2) = all_caught (block-sort q2)
-  caught-of (catch_named q1 q2 q3 q4 q5) = one_caught refl (block-sort q5)
 
   -- ---- one part, two, three
 
@@ -187,7 +188,8 @@ module _ (P : NodeSort → NodeId → Type 0) (n : ℕ) {ts : Tokens} (h : AreIn
       (
         tt,
         λ out k f e. mapped P (λ (x : FunctionParts). ArrowForm x false) _ f e
-            (parts-of P Expression (roots out (join parts (one_part b))) parts (one_part b) (head-sorts q1) (stands-sort q5, tt) k),
+            (parts-of P Expression (roots out (join parts (one_part b))) parts (one_part b) (head-sorts q1)
+            (stands-sort q5, tt) k),
       ),
       join-fit P n parts (one_part b) (head-fit q1) (stands-fits q5, tt),
     )
@@ -318,12 +320,16 @@ module _ (P : NodeSort → NodeId → Type 0) (n : ℕ) {ts : Tokens} (h : AreIn
     declared-fit (declared_as q1 q2 q3) = ((name-at q1, λ out k f e. fit P _ f e (expr q3 k.0)), (stands-fits q3, tt))
 
     lets-fit : {a : Rose} {i j : Place} → g.Lets ts a i j → Fits P n a
-    lets-fit (lets {parts} q1 q2) =
-        ((tt, λ out k f e. fit P _ f e (placed-all P Declared (roots out parts) parts (declarations-sorts q2) k)), declarations-fit q2)
+    lets-fit (lets {parts} q1 q2) = (
+      (tt, λ out k f e. fit P _ f e (placed-all P Declared (roots out parts) parts (declarations-sorts q2) k)),
+      declarations-fit q2,
+    )
 
     block-fit : {a : Rose} {i j : Place} → g.BlockOf ts a i j → Fits P n a
-    block-fit (block {parts} q1 q2 q3) =
-        ((tt, λ out k f e. fit P _ f e (placed-all P Statement (roots out parts) parts (statements-sorts q2) k)), statements-fit q2)
+    block-fit (block {parts} q1 q2 q3) = (
+      (tt, λ out k f e. fit P _ f e (placed-all P Statement (roots out parts) parts (statements-sorts q2) k)),
+      statements-fit q2,
+    )
 
     perhaps-fit : {b : Bool} {parts : Roses} {i j : Place} → g.Perhaps ts b parts i j → AllFit P n parts
     perhaps-fit absent = tt
@@ -375,8 +381,10 @@ module _ (P : NodeSort → NodeId → Type 0) (n : ℕ) {ts : Tokens} (h : AreIn
     statement-fits : {a : Rose} {i j : Place} → g.Statement ts a i j → Fits P n a
     statement-fits (sub q1) = sub-fits q1
     statement-fits (let_statement q1 q2) = lets-fit q1
-    statement-fits (const {parts} q1 q2 q3) =
-        ((tt, λ out k f e. fit P _ f e (placed-all P Declared (roots out parts) parts (declarations-sorts q2) k)), declarations-fit q2)
+    statement-fits (const {parts} q1 q2 q3) = (
+      (tt, λ out k f e. fit P _ f e (placed-all P Declared (roots out parts) parts (declarations-sorts q2) k)),
+      declarations-fit q2,
+    )
     statement-fits (declaration {n = x} {parts = parts} {body = body} q1 q2 q3 q4 q5 q6 q7 q8) = (
       (
         name-at q2,

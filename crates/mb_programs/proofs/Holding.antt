@@ -1,10 +1,10 @@
 -- What tokens hold, by their roles.
 use Rattle.mb_frames.specs.Grammatical.{asks_objects}
-use Rattle.mb_grammar.specs.Tokens.{Tokens, Place, RoleAt, mark_role, role_at, role_of, token_at, token_of, word_role}
+use Rattle.mb_grammar.specs.Tokens.{Tokens, Place, RoleAt, mark_role, role_of, token_at, word_role}
 use Rattle.mb_grammar.specs.declared.role.Role.{Role}
 use Rattle.mb_grammar.specs.declared.role.Role.TheVariants as r
 use Rattle.mb_lexer.specs.Reading.{HasTokens, Lexeme, Reads, end}
-use Rattle.mb_lexer.specs.Shown.{AreSeen, IsSeen, Shows}
+use Rattle.mb_lexer.specs.Shown.{AreSeen, Shows}
 use Rattle.mb_lexer.specs.Strings.{number_of}
 use Rattle.mb_lexer.specs.Tokens.{Content, IsToken, is_whole as is_whole_text, mark, name, reserved, soft, text, whole}
 use Rattle.mb_token.specs.declared.mark.Mark.{Mark}
@@ -16,7 +16,8 @@ use Rattle.mb_token.specs.declared.word.Word.{Word}
 use Rattle.mb_token.specs.declared.word.Word.TheVariants as w
 use Rattle.mb_world.specs.Formed.{is_whole}
 use Rattle.mb_world.specs.Ids.{Maybe}
-use Rattle.std.proofs.Common.{Bool, List, None, Option, Some, [], arith, false, length, pos, refl, subst, suc, sym, true, zero, ℕ, ◌<◌, ◌∷◌, ◌≡◌}
+use Rattle.std.proofs.Common.{Bool, List, None, Option, Some, [], arith, false, length, pos, refl, subst, suc, sym}
+use Rattle.std.proofs.Common.{true, zero, ℕ, ◌<◌, ◌∷◌, ◌≡◌}
 use Rattle.std.specs.Prelude.{nat_le, ◌^◌}
 use Rattle.std.proofs.lemmas.Bool.{and_parts, leb-true, lt-ltb}
 use Rattle.std.proofs.lemmas.Option.{slice_get_within}

@@ -1,6 +1,7 @@
 pub mod Holding
 pub mod Sorts
 pub mod Placing
+pub mod Optional
 pub mod Fitting
 pub mod Written
 pub mod Names

@@ -10,7 +10,7 @@ use Rattle.mb_scope.specs.declared.binding.Declares.TheVariants.{Decls, Itself, 
 use Rattle.mb_tree.specs.Names.{Binds}
 use Rattle.mb_tree.specs.Roses.{Shape, id_of}
 use Rattle.mb_world.specs.Ids.{Maybe}
-use Rattle.std.proofs.Common.{Bool, List, None, Option, Some, [], false, map, slice_get, suc, true, zero, ℕ, ◌++◌, ◌<◌, ◌∷◌}
+use Rattle.std.proofs.Common.{Bool, List, None, Option, Some, [], false, map, slice_get, suc, true, zero, ℕ, ◌<◌, ◌∷◌}
 use Rattle.std.proofs.lemmas.List.Elements.{All-append, All-cons, All-head, All-nil, All-tail}
 use Rattle.std.specs.List.{flat_map}
 use Rattle.std.specs.Prelude.{All, if◌then◌else◌}

@@ -9,13 +9,21 @@ use Rattle.mb_scope.specs.Names.{entry, itself, names_from, names_of, own_name, 
 use Rattle.mb_scope.specs.declared.binding.Binding.{Binding}
 use Rattle.mb_scope.specs.declared.fault.NameFault.TheVariants.{Twice}
 use Rattle.mb_tree.proofs.Shapes.{form_is}
-use Rattle.mb_tree.specs.Form.{AndForm, ArrayForm, ArrowForm, AssignForm, BinaryForm, BlockForm, BreakForm, CallForm, CompoundForm, CondForm, ConstForm, ContinueForm, DeclForm, DoWhileForm, EmptyForm, ExprStmtForm, ForForm, Form, FunctionDeclForm, FunctionForm, FunctionParts, GetterForm, GroupForm, IfForm, IndexForm, LetForm, LiteralForm, MemberForm, MethodForm, NameForm, NewForm, NumberForm, ObjectForm, OrForm, ParamForm, ReturnForm, ScriptForm, SeqForm, SetterForm, TextForm, ThisForm, ThrowForm, TryForm, UnaryForm, UpdateForm, ValueForm, WhileForm, form_by, form_of, function_parts, kind_of}
+use Rattle.mb_tree.specs.Form.{AndForm, ArrayForm, ArrowForm, AssignForm, BinaryForm, BlockForm, BreakForm, CallForm}
+use Rattle.mb_tree.specs.Form.{CompoundForm, CondForm, ConstForm, ContinueForm, DeclForm, DoWhileForm, EmptyForm}
+use Rattle.mb_tree.specs.Form.{ExprStmtForm, ForForm, Form, FunctionDeclForm, FunctionForm, FunctionParts, GetterForm}
+use Rattle.mb_tree.specs.Form.{GroupForm, IfForm, IndexForm, LetForm, LiteralForm, MemberForm, MethodForm, NameForm}
+use Rattle.mb_tree.specs.Form.{NewForm, NumberForm, ObjectForm, OrForm, ParamForm, ReturnForm, ScriptForm, SeqForm}
+use Rattle.mb_tree.specs.Form.{SetterForm, TextForm, ThisForm, ThrowForm, TryForm, UnaryForm, UpdateForm, ValueForm}
+use Rattle.mb_tree.specs.Form.{WhileForm, form_by, form_of, function_parts, kind_of}
 use Rattle.mb_tree.specs.Names.{Binds}
 use Rattle.mb_tree.specs.Roses.{Shape, id_of}
 use Rattle.mb_tree.specs.declared.kind.Kind.{Kind}
 use Rattle.mb_tree.specs.declared.kind.Kind.TheVariants as k
 use Rattle.mb_world.specs.Data.{Script}
-use Rattle.std.proofs.Common.{Bool, List, None, Option, Some, [], ap, append-nil, arith, drop, false, length, map, nat_eq, option_map, refl, slice_get, subst, suc, sym, true, true≢false, zero, ℕ, ◌+◌, ◌++◌, ◌<◌, ◌≤◌, ◌∙◌, ◌∷◌, ◌≡◌}
+use Rattle.std.proofs.Common.{Bool, List, None, Option, Some, [], ap, append-nil, arith, false, map, nat_eq}
+use Rattle.std.proofs.Common.{option_map, refl, slice_get, subst, suc, sym, true, true≢false, zero, ℕ, ◌+◌, ◌++◌, ◌<◌}
+use Rattle.std.proofs.Common.{◌∙◌, ◌∷◌, ◌≡◌}
 use Rattle.std.proofs.lemmas.Bool.{eq-eqb, ne_eqb}
 use Rattle.std.proofs.lemmas.List.Elements.{filter-append}
 use Rattle.std.proofs.lemmas.Map.Keys.{IsDistinct-cons}
@@ -252,7 +260,8 @@ own-first : (scope : NodeId) (name : StrId) (q : Option FunctionParts) (bound : 
 own-first scope name None bound h = cc
 own-first scope name (Some parts) bound h = refl
 
-own-none : (q : Option FunctionParts) (bound : List Binds) → without_own (option_map (FunctionForm None) q) bound ≡ bound
+own-none : (q : Option FunctionParts) (bound : List Binds)
+    → without_own (option_map (FunctionForm None) q) bound ≡ bound
 own-none None bound = refl
 own-none (Some parts) bound = refl
 
@@ -318,5 +327,6 @@ pub names-apart : (p : Script) → IsRight p.nodes → p.names ≡ names_of p.no
     → IsDistinct (λ a b. nat_eq a.1.0 b.1.0) (without_own (form_of x) (names_bound_at p n))
 names-apart p right e n x is form =
     subst (λ (names : List Binds). IsDistinct same-name (without_own (form_of x) names))
-    (sym (ap (λ (names : List Binds). filter (of-node n.0) names) e ∙ names-at p.nodes 0 n.0 p.nodes n.0 x is (omega arith)))
+    (sym (ap (λ (names : List Binds). filter (of-node n.0) names) e
+    ∙ names-at p.nodes 0 n.0 p.nodes n.0 x is (omega arith)))
     (scope-apart p.nodes right n x is form)

@@ -4,10 +4,12 @@ use Rattle.mb_base.specs.declared.value.StrId.{StrId}
 use Rattle.mb_frames.specs.Grammatical.{ArePartsOfFunction, HasItsParts}
 use Rattle.mb_frames.specs.Kinds.{Expression, NodeSort, Parameter, Statement}
 use Rattle.mb_programs.proofs.Sorts.{AllOf, sort_of}
-use Rattle.mb_tree.specs.Form.{ForForm, Form, FunctionDeclForm, FunctionParts, TryForm, for_form, form_of, function_decl_form, function_parts, try_form}
+use Rattle.mb_tree.specs.Form.{Form, FunctionDeclForm, FunctionParts, for_form, form_of, function_decl_form}
+use Rattle.mb_tree.specs.Form.{function_parts, try_form}
 use Rattle.mb_tree.specs.Roses.{Label, Rose, Roses, Shape, join, more, node, none, roots, shape, size}
 use Rattle.mb_world.specs.Ids.{Maybe}
-use Rattle.std.proofs.Common.{Bool, List, None, Option, Some, [], drop, false, inl, inr, length, option_map, refl, subst, take, true, ℕ, ◌<◌, ◌∷◌, ◌≡◌}
+use Rattle.std.proofs.Common.{Bool, List, None, Option, Some, [], drop, false, inl, inr, length, option_map, refl}
+use Rattle.std.proofs.Common.{subst, take, true, ℕ, ◌<◌, ◌∷◌, ◌≡◌}
 use Rattle.std.proofs.lemmas.List.Elements.{All-cons, All-nil}
 use Rattle.std.specs.Prelude.{All, if◌then◌else◌, nat_le, ◌⊎◌}
 

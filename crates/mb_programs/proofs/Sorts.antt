@@ -1,12 +1,20 @@
 -- Of which sort the trees of the grammar are.
-use Rattle.mb_base.specs.declared.value.StrId.{StrId}
 use Rattle.mb_frames.specs.Grammatical.{kind_sort}
 use Rattle.mb_frames.specs.Kinds.{Declared, Expression, NodeSort, Parameter, PropertyDefinition, Statement}
 use Rattle.mb_grammar.specs.Grammar as g
-use Rattle.mb_grammar.specs.Grammar.{Bodies, and_also, array, arrow_block, arrow_value, assign, before, behind, binary, block, break, call, compound, cond, const, continue, declaration, declared, declared_as, do_while, elements, elements_comma, empty, expression, finished, for_loop, function, group, if_else, if_then, index, last_declared, last_of, last_property, left_call, left_new, let_statement, lets, lift, literal, made, maker_of, member, name_of, negative, new_args, new_member, new_new, no_property, nothing, number, object, or, properties, properties_comma, returns, returns_with, seq, shorthand, statement, sub, sub_block, text, then_declared, then_of, then_property, this, throw, try, unary, valued, while_do}
+use Rattle.mb_grammar.specs.Grammar.{Bodies, and_also, array, arrow_block, arrow_value, assign, before, behind}
+use Rattle.mb_grammar.specs.Grammar.{binary, block, break, call, compound, cond, const, continue, declaration}
+use Rattle.mb_grammar.specs.Grammar.{declared, declared_as, do_while, elements, elements_comma, empty, expression}
+use Rattle.mb_grammar.specs.Grammar.{finished, for_loop, function, group, if_else, if_then, index, last_declared}
+use Rattle.mb_grammar.specs.Grammar.{last_of, last_property, left_call, left_new, let_statement, lets, lift, literal}
+use Rattle.mb_grammar.specs.Grammar.{made, maker_of, member, name_of, negative, new_args, new_member, new_new}
+use Rattle.mb_grammar.specs.Grammar.{no_property, nothing, number, object, or, properties, properties_comma, returns}
+use Rattle.mb_grammar.specs.Grammar.{returns_with, seq, shorthand, statement, sub, sub_block, text, then_declared}
+use Rattle.mb_grammar.specs.Grammar.{then_of, then_property, this, throw, try, unary, valued, while_do}
 use Rattle.mb_grammar.specs.Labels.{IsFunction, IsProperty}
 use Rattle.mb_grammar.specs.Nonterminals.{Nonterminal}
-use Rattle.mb_grammar.specs.Parts.{Head, MakerParams, Names, Params, last_name, many, name_and, no_params, of_function, of_getter, of_method, of_setter, one, params, params_comma}
+use Rattle.mb_grammar.specs.Parts.{Head, MakerParams, Names, Params, last_name, many, name_and, no_params}
+use Rattle.mb_grammar.specs.Parts.{of_function, of_getter, of_method, of_setter, one, params, params_comma}
 use Rattle.mb_grammar.specs.Tokens.{Place, Tokens}
 use Rattle.mb_grammar.specs.declared.function.Maker.{Maker}
 use Rattle.mb_grammar.specs.declared.function.Maker.TheVariants as mk

@@ -1,7 +1,7 @@
 -- What was read is what a run asks for.
 use Rattle.mb_base.specs.declared.value.NodeId.{NodeId}
 use Rattle.mb_base.specs.declared.value.StrId.{StrId}
-use Rattle.mb_frames.specs.Grammatical.{IsGrammatical, IsOfNodeSort, IsProgram}
+use Rattle.mb_frames.specs.Grammatical.{IsOfNodeSort, IsProgram}
 use Rattle.mb_frames.specs.Kinds.{NodeSort, Statement}
 use Rattle.mb_grammar.proofs.Forms.{tree_has_forms}
 use Rattle.mb_grammar.specs.Script.{IsTreeOfGrammar, script_of}
@@ -21,15 +21,16 @@ use Rattle.mb_tree.specs.Names.{Binds}
 use Rattle.mb_tree.specs.Roses.{Rose, Roses, Shape, bare, roots, shape, write, write_all}
 use Rattle.mb_tree.specs.declared.kind.Kind.TheVariants as k
 use Rattle.mb_world.specs.Data.{Data, Script, fresh, with_texts}
-use Rattle.mb_world.specs.Form.{Form, ScriptForm}
+use Rattle.mb_world.specs.Form.{ScriptForm}
 use Rattle.mb_world.specs.FormOf.{TreeNode, form_of}
 use Rattle.mb_world.specs.Ids.{Maybe, ScriptIn, TextIn}
 use Rattle.mb_world.specs.Image.{node_in, nodes_in}
-use Rattle.std.proofs.Common.{List, None, Option, Some, [], ap, arith, length, length-append, map, option_map, refl, slice_get, subst, sym, ℕ, ◌+◌, ◌++◌, ◌-◌, ◌<◌, ◌≤◌, ◌∙◌, ◌∷◌, ◌≡◌}
+use Rattle.std.proofs.Common.{List, None, Option, Some, [], ap, arith, length, length-append, map, option_map}
+use Rattle.std.proofs.Common.{slice_get, subst, sym, ℕ, ◌++◌, ◌-◌, ◌<◌, ◌≤◌, ◌∙◌, ◌∷◌, ◌≡◌}
 use Rattle.std.proofs.lemmas.List.{length-map}
 use Rattle.std.proofs.lemmas.List.Elements.{All-weaker}
 use Rattle.std.proofs.lemmas.Option.{slice_get-map}
-use Rattle.std.specs.Prelude.{All, ◌^◌}
+use Rattle.std.specs.Prelude.{All}
 
 module _ (texts : List (List ℕ)) (p : Script) (w : WasRead texts p) where
   abbrev n : ℕ
@@ -123,7 +124,8 @@ module _ (texts : List (List ℕ)) (p : Script) (w : WasRead texts p) where
   last =
       slice_get-map (form_of told) told (length before)
       ∙ ap (λ (o : Option TreeNode). option_map (form_of told) o)
-      (slice_get-map (node_in texts) p.nodes (length before) ∙ ap (λ (o : Option Shape). option_map (node_in texts) o) there)
+      (slice_get-map (node_in texts) p.nodes (length before)
+      ∙ ap (λ (o : Option Shape). option_map (node_in texts) o) there)
 
   whole : HasWhole (forms_of texts p)
   whole = record {

@@ -9,10 +9,12 @@ use Rattle.mb_programs.proofs.Placing.{AllFit, Fits, Placed}
 use Rattle.mb_programs.proofs.Sorts.{sort_of}
 use Rattle.mb_tree.proofs.Written.{root_least, root_write, roots_length, write_all_keeps}
 use Rattle.mb_tree.specs.Form.{Form, form_of}
-use Rattle.mb_tree.specs.Roses.{Rose, Roses, Shape, bare, id_of, more, node, none, root, roots, shape, size, write, write_all}
+use Rattle.mb_tree.specs.Roses.{Rose, Roses, Shape, bare, id_of, more, node, none, root, roots, shape, size, write}
+use Rattle.mb_tree.specs.Roses.{write_all}
 use Rattle.mb_tree.specs.declared.kind.Kind.TheVariants as k
 use Rattle.mb_world.specs.Ids.{Maybe}
-use Rattle.std.proofs.Common.{List, Option, Some, [], ap, append-nil, append_assoc, arith, get_or, length, length-append, refl, slice_get, subst, suc, sym, ℕ, ◌+◌, ◌++◌, ◌<◌, ◌≤◌, ◌∙◌, ◌∷◌, ◌≡◌}
+use Rattle.std.proofs.Common.{List, Option, Some, [], ap, append-nil, append_assoc, arith, get_or, length}
+use Rattle.std.proofs.Common.{length-append, refl, slice_get, subst, sym, ℕ, ◌+◌, ◌++◌, ◌<◌, ◌≤◌, ◌∙◌, ◌∷◌, ◌≡◌}
 use Rattle.std.proofs.lemmas.List.Elements.{All-append, All-cons, All-from_get_or, All-get_or, All-nil}
 use Rattle.std.proofs.lemmas.Option.{slice_get-get_or}
 use Rattle.std.specs.Prelude.{All, IsSomeAnd, ◌^◌}

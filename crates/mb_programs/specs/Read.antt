@@ -40,8 +40,11 @@ pub record HasWhole (forms : List Form) : Type 0 where
   pub last : slice_get forms (length forms - 1) ≡ Some (ScriptForm statements)
   pub few : length forms < 2 ^ 32
 
+abbrev pub IsWhole : List (List ℕ) → Script → Type 0
+IsWhole texts p = HasWhole (forms_of texts p)
+
 -- each node has its parts, the whole script stands last, and each text is there
 pub record CanStart (texts : List (List ℕ)) (p : Script) : Type 0 where
   pub program : IsProgram p
-  pub whole : HasWhole (forms_of texts p)
+  pub whole : IsWhole texts p
   pub ids : ScriptIn (with_texts fresh texts) p

@@ -4,7 +4,7 @@ use Rattle.mb_base.specs.declared.value.ObjId.{ObjId}
 use Rattle.mb_base.specs.declared.value.Side.{Side}
 use Rattle.mb_base.specs.declared.value.Value.{Value}
 use Rattle.mb_base.specs.declared.value.Value.TheVariants as v
-use Rattle.mb_call.specs.machine.Keeping.{object_held}
+use Rattle.mb_parts.specs.Keeping.{object_held}
 use Rattle.mb_frames.proofs.Going.{Makes-passes}
 use Rattle.mb_frames.specs.Going.{Makes}
 use Rattle.mb_frames.specs.Keeping.{KeepsAnswer}

@@ -3,7 +3,8 @@ use Rattle.std.proofs.Common.{◌≡◌, Bool, List, Option, false, refl, sym, t
 use Rattle.mb_base.specs.declared.value.Key.{Key}
 use Rattle.mb_base.specs.declared.value.Value.{Value}
 use Rattle.mb_desc.specs.declared.descriptor.Full.{Full}
-use Rattle.mb_frames.specs.Sorts.{ACompletion, AFlag, AProperty, ASlot, AValue, AnObject, APrototype, IsAnswer, IsOfSort, SomeKeys, Sort, fits, reflect_waits}
+use Rattle.mb_frames.specs.Sorts.{ACompletion, AFlag, AProperty, ASlot, AValue, AnObject, APrototype, IsAnswer}
+use Rattle.mb_frames.specs.Sorts.{IsOfSort, SomeKeys, Sort, fits, reflect_waits}
 use Rattle.mb_frames.specs.declared.reflecting.ReflectFrame.{ReflectFrame}
 use Rattle.mb_frames.specs.declared.reflecting.ReflectFrame.TheVariants as r
 use Rattle.mb_frames.specs.declared.task.Answer.{Answer}

@@ -2,11 +2,9 @@ pub mod Doing
 pub mod Rows
 pub mod Keying
 pub mod Looping
-pub mod Filled
 pub mod Made
 pub mod Targeting
 pub mod Messages
-pub mod Stored
 pub mod Settled
 pub mod Prototyped
 pub mod Described

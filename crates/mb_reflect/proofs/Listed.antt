@@ -6,7 +6,6 @@ use Rattle.std.specs.Prelude.{All}
 use Rattle.mb_base.specs.declared.value.Key.{Key}
 use Rattle.mb_base.specs.declared.value.Key.TheVariants as k
 use Rattle.mb_base.specs.declared.value.Side.{Side}
-use Rattle.mb_base.specs.declared.value.Value.{Value}
 use Rattle.mb_frames.proofs.HeldLess.{keys-held, text-value-held, values-all}
 use Rattle.mb_frames.specs.Held.{HeldKeys, HeldValue, HeldValues}
 use Rattle.mb_frames.specs.Ready.{MayHold}

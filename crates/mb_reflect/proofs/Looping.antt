@@ -1,5 +1,6 @@
 -- Rows that visit keys of a list, one after the other, a unit for each.
-use Rattle.std.proofs.Common.{◌+◌, ◌<◌, ◌≡◌, ◌∙◌, ◌∷◌, Err, List, None, Option, Result, Some, [], ap, drop, option_map, slice_get, sym, ℕ}
+use Rattle.std.proofs.Common.{◌+◌, ◌<◌, ◌≡◌, ◌∙◌, ◌∷◌, Err, List, None, Option, Result, Some, [], ap, drop, option_map}
+use Rattle.std.proofs.Common.{slice_get, sym, ℕ}
 use Rattle.std.proofs.lemmas.Option.{slice_get-map}
 use Rattle.mb_base.specs.declared.value.Key.{Key}
 use Rattle.mb_base.specs.declared.value.Side.{Side}

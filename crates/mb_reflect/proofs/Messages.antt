@@ -1,5 +1,6 @@
 -- A new error gets its message.
-use Rattle.std.proofs.Common.{◌-◌, ◌<◌, ◌^◌, ◌≡◌, ◌≤◌, ◌∙◌, ◌∷◌, Bool, List, None, Ok, Option, Result, Some, [], ap, arith, false, lit<, map, option_map, subst, sym, true, ℕ}
+use Rattle.std.proofs.Common.{◌-◌, ◌<◌, ◌^◌, ◌≡◌, ◌≤◌, ◌∙◌, ◌∷◌, Bool, List, None, Ok, Option, Result, Some, [], ap}
+use Rattle.std.proofs.Common.{arith, false, lit<, map, option_map, subst, sym, true, ℕ}
 use Rattle.std.proofs.lemmas.List.Elements.{All-nil}
 use Rattle.std.specs.Prelude.{All, codes}
 use Rattle.mb_base.specs.declared.value.ObjId.{ObjId}

@@ -1,5 +1,6 @@
 -- The places of these built-ins, and what they give.
-use Rattle.std.proofs.Common.{◌+◌, ◌≡◌, ◌⊎◌, ◌∷◌, ◌||◌, Bool, List, None, Option, Some, [], arith, false, inl, inr, refl, slice_get, subst, suc, sym, true, true≢false, zero, ℕ}
+use Rattle.std.proofs.Common.{◌+◌, ◌≡◌, ◌⊎◌, ◌∷◌, ◌||◌, Bool, List, None, Option, Some, [], arith, false, inl, inr}
+use Rattle.std.proofs.Common.{refl, slice_get, subst, suc, sym, true, true≢false, zero, ℕ}
 use Rattle.std.specs.Prelude.{if◌then◌else◌}
 use Rattle.std.specs.List.{AllByRecursion}
 use Rattle.mb_base.specs.declared.value.Value.{Value}

@@ -2,7 +2,6 @@ pub mod Arguments
 pub mod Asking
 pub mod Keyed
 pub mod Listing
-pub mod Filling
 pub mod Settling
 pub mod Targets
 pub mod Failing

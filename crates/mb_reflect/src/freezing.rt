@@ -1,5 +1,5 @@
 // Object.isFrozen (ECMA-262, 20.1.2.16), by TestIntegrityLevel (7.3.17).
-ghost use Rattle.std.specs.Prelude.{◌≡◌, ◌∷◌, [], ℕ, drop};
+ghost use Rattle.std.specs.Prelude.{◌≡◌, ◌∷◌, [], drop};
 ghost use Rattle.mb_call.specs.Ours.{Acts};
 ghost use Rattle.mb_desc.specs.Descriptors.{property_is};
 ghost use Rattle.mb_frames.specs.Held.{HeldKeys, HeldObject, HeldValue};

@@ -1,5 +1,5 @@
 // Calls and constructions of what was passed (ECMA-262, 20.2.3, 28.1.1, 28.1.2).
-ghost use Rattle.std.specs.Prelude.{◌≡◌, ◌∷◌, [], ℕ};
+ghost use Rattle.std.specs.Prelude.{◌∷◌, [], ℕ};
 ghost use Rattle.mb_call.specs.Ours.{Acts};
 ghost use Rattle.mb_frames.specs.Held.{HeldValue, HeldValues};
 ghost use Rattle.mb_frames.specs.Passing.{Part};

@@ -1,5 +1,5 @@
 // Members of Object and Reflect that ask a method with a key of their first argument (ECMA-262, 20.1.2, 28.1).
-ghost use Rattle.std.specs.Prelude.{◌∷◌, [], ℕ};
+ghost use Rattle.std.specs.Prelude.{◌∷◌, ℕ};
 ghost use Rattle.mb_call.specs.Ours.{Acts};
 ghost use Rattle.mb_frames.specs.Held.{HeldKey, HeldObject, HeldValue};
 ghost use Rattle.mb_frames.specs.Passing.{Part};

@@ -1,5 +1,6 @@
 // Lists of keys, and the values that stand for them.
-ghost use Rattle.std.specs.Prelude.{◌≡◌, ◌<◌, ◌≤◌, ◌+◌, ◌^◌, ◌↔◌, IfOk, IsErr, OnErr, OnOk, length, map, not, slice_get};
+ghost use Rattle.std.specs.Prelude.{◌≡◌, ◌<◌, ◌≤◌, ◌+◌, ◌^◌, ◌↔◌, IfOk, IsErr, OnErr, OnOk, length, map, not};
+ghost use Rattle.std.specs.Prelude.{slice_get};
 ghost use Rattle.mb_frames.specs.Passing.{TextsGrew};
 ghost use Rattle.mb_world.specs.Ids.{KeyIn};
 ghost use Rattle.mb_world.specs.Image.{key_in, names_of};

@@ -1,5 +1,5 @@
 // Object.keys, Object.getOwnPropertySymbols and Reflect.ownKeys (ECMA-262, 20.1.2.11, 20.1.2.18, 28.1.11).
-ghost use Rattle.std.specs.Prelude.{◌≡◌, ◌∷◌, [], ℕ, IfOk, drop};
+ghost use Rattle.std.specs.Prelude.{◌≡◌, ◌∷◌, [], IfOk, drop};
 ghost use Rattle.mb_base.specs.declared.value.Side.{Side as ASide};
 ghost use Rattle.mb_call.specs.Ours.{Acts};
 ghost use Rattle.mb_desc.specs.Descriptors.{is_enumerable, property_is};

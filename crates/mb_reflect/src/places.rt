@@ -32,8 +32,6 @@ pub(crate) const OBJECT_DEFINE_PROPERTY: u16 = 22;
 
 pub(crate) const OBJECT_GET_OWN_PROPERTY_DESCRIPTOR: u16 = 23;
 
-pub(crate) const ARRAY_PROTOTYPE: u16 = 24;
-
 pub(crate) const REFLECT_APPLY: u16 = 35;
 
 pub(crate) const REFLECT_CONSTRUCT: u16 = 36;

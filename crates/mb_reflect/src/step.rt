@@ -21,9 +21,9 @@ use mb_base::{Fuel, Side};
 use mb_frames::{Frame, Halt, Lines, Machine, Move, Outcome, Task};
 use mb_world::World;
 
-/// One step of Object, a member of Object or Reflect, an error constructor, `call` or `apply` on top of a machine: it is
-/// entered, or takes how its part ended. No line is written. `Spent` comes exactly where its charges are above what is
-/// left: a unit for entering it, and one for each key that it visits or lists. After a halt the machine isn't used
+/// One step of Object, a member of Object or Reflect, an error constructor, `call` or `apply` on top of a machine: it
+/// is entered, or takes how its part ended. No line is written. `Spent` comes exactly where its charges are above what
+/// is left: a unit for entering it, and one for each key that it visits or lists. After a halt the machine isn't used
 /// again.
 pub fn step_reflect(
     m: &mut Machine,

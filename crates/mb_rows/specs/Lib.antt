@@ -6,6 +6,7 @@ pub mod Turns
 pub mod Policy
 pub mod Proxies
 pub mod Symbols
+pub mod Collecting
 pub mod Collections
 pub mod Sides
 pub mod Traces

@@ -176,7 +176,7 @@ standard_at n = option_map (standard n) (intrinsic n)
 
 abbrev pub bound_intrinsics : List Intrinsic
 bound_intrinsics = Print ∷ Later ∷ Labelled ∷ Object ∷ Array ∷ Reflect ∷ Proxy ∷ String ∷ Error ∷ TypeError ∷
-    RangeError ∷ ReferenceError ∷ Symbol ∷ Map ∷ Set ∷ WeakMap ∷ []
+    RangeError ∷ ReferenceError ∷ Symbol ∷ []
 
 abbrev pub global_names : List (List ℕ × Val)
 global_names = map (λ i. (name_of i, built_in i)) bound_intrinsics

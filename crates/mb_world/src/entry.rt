@@ -1,7 +1,7 @@
 // The trace.
-ghost use Rattle.std.specs.Prelude.{◌≡◌};
+ghost use Rattle.std.specs.Prelude.{◌≡◌, [], ◌∷◌, ◌++◌, OnErr, OnOk};
 
-use mb_base::{Key, Side, StrId};
+use mb_base::{Key, NoMemory, Side, StrId};
 use mb_desc::Desc;
 use std::marker::Model;
 
@@ -69,6 +69,15 @@ impl KeyList {
         ensures { result.now ≡ self.now }
     {
         &self.items
+    }
+
+    /// Adds a key behind the others.
+    pub fn push(&mut self, key: Key) -> Result<(), NoMemory>
+        ensures pushed { OnOk result (self.new ≡ self.old ++ key ∷ []) }
+        ensures kept { OnErr result (self.new ≡ self.old) }
+    {
+        self.items.push(key)?;
+        Ok(())
     }
 }
 

@@ -1,7 +1,8 @@
 -- Who acts: the owner of a function in its body and where it constructs, and else the side at whose home the task is.
-use Rattle.std.specs.Prelude.{Bool, None, Option, Some, false, true}
+use Rattle.std.specs.Prelude.{Bool, Option, false, true}
 use Rattle.mb_base.specs.declared.value.Side.{Side}
 use Rattle.mb_call.specs.Due.{is_due}
+use Rattle.mb_call.specs.Owners.{owner_of}
 use Rattle.mb_frames.specs.declared.frame.Frame.{Frame}
 use Rattle.mb_frames.specs.declared.frame.Frame.TheVariants as x
 use Rattle.mb_frames.specs.declared.task.Method.{Method}
@@ -10,17 +11,6 @@ use Rattle.mb_frames.specs.declared.task.Task.{Task}
 use Rattle.mb_frames.specs.declared.task.Task.TheVariants as t
 use Rattle.mb_world.specs.Data.{Data, cell_at}
 use Rattle.mb_world.specs.declared.cell.Cell.{Cell}
-use Rattle.mb_world.specs.declared.cell.CellKind.{CellKind}
-use Rattle.mb_world.specs.declared.cell.CellKind.TheVariants.{Function}
-
-abbrev pub owner_by : Side → CellKind → Side
-owner_by home (Function code) = code.side
-owner_by home kind = home
-
--- the owner of a function; of another object the side that acts already
-abbrev pub owner_of : Side → Option Cell → Side
-owner_of home None = home
-owner_of home (Some c) = owner_by home c.kind
 
 abbrev pub method_side : Side → Method → Option Cell → Side
 method_side home (m.Construct arguments target) c = owner_of home c

@@ -1,6 +1,5 @@
--- Entries: what one is given, the line of the last one, and what the step keeps that makes one.
-use Rattle.std.specs.Prelude.{Bool, Err, List, None, Ok, Option, Result, Some, [], false, true, ℕ, ◌++◌, ◌∷◌, ◌≡◌}
-use Rattle.mb_base.specs.declared.NoMemory.{NoMemory}
+-- Entries: what one is given, and what the step keeps that makes one.
+use Rattle.std.specs.Prelude.{None, Option, Result, Some}
 use Rattle.mb_base.specs.declared.value.Key.{Key}
 use Rattle.mb_base.specs.declared.value.Side.{Side}
 use Rattle.mb_frames.specs.Ready.{IsReady, KeepsBy, LeavesBy}
@@ -15,10 +14,7 @@ use Rattle.mb_frames.specs.declared.frame.Move.{Move}
 use Rattle.mb_frames.specs.declared.machine.Halt.{Halt}
 use Rattle.mb_frames.specs.declared.task.Method.{Method}
 use Rattle.mb_frames.specs.declared.task.Method.TheVariants as m
-use Rattle.mb_frames.specs.Stepping.{Written}
-use Rattle.mb_trace.specs.Line.{line_of}
 use Rattle.mb_world.specs.Data.{Data}
-use Rattle.mb_world.specs.declared.entry.Entry.{Entry}
 
 -- the key of a method's entry
 abbrev pub key_given : Method → Option Key
@@ -49,22 +45,3 @@ KeepsFrame home acts (x.Entry y) sort result d d' =
     KeepsNoting acts (frame_sort (forms_at d home) (x.Entry y) sort) result d d'
 KeepsFrame home acts frame sort result d d' =
     KeepsBy acts (frame_sort (forms_at d home) frame sort) result d d'
-
--- ---- lines
-
--- the line of the last entry
-pub record IsLineOfLast (d : Data) (lettered : Bool) (line : List ℕ) : Type 0 where
-  pub before : List Entry
-  pub entry : Entry
-  pub last : d.entries ≡ before ++ entry ∷ []
-  pub is : line ≡ line_of d lettered entry
-
--- it was written, where the trace is
-abbrev pub WritesIf : Bool → Data → Written → Written → Type 0
-WritesIf false d l l' = l' ≡ l
-WritesIf true d l l' = (line : List ℕ) × IsLineOfLast d l.lettered line ×
-    (l' ≡ record l { lines = l.lines ++ line ∷ [] })
-
-abbrev pub WritesLast : Result (Unit {0}) NoMemory → Data → Written → Written → Type 0
-WritesLast (Ok u) d l l' = WritesIf l.traced d l l'
-WritesLast (Err refusal) d l l' = Unit {0}

@@ -1,5 +1,6 @@
 -- How a world begins, step by step.
-use Rattle.std.specs.Prelude.{Bool, List, None, Option, Some, [], false, length, map, suc, take, zero, ℕ, ◌+◌, ◌++◌, ◌∷◌, ◌≡◌}
+use Rattle.std.specs.Prelude.{Bool, List, None, Option, Some, [], false, length, map, suc, take, zero, ℕ, ◌+◌, ◌++◌}
+use Rattle.std.specs.Prelude.{◌∷◌, ◌≡◌}
 use Rattle.mb_base.specs.declared.value.ObjId.{ObjId}
 use Rattle.mb_base.specs.declared.value.Side.{Side}
 use Rattle.mb_frames.specs.Ready.{IsReady}

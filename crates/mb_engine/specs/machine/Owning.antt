@@ -1,32 +1,22 @@
 -- Which crate does the step of a frame.
-use Rattle.std.specs.Prelude.{Bool, List, Option, [], false, nat_eq, nat_le, true, ℕ, ◌&&◌, ◌++◌, ◌∷◌, ◌||◌, ◌≡◌}
+use Rattle.std.specs.Prelude.{Bool, List, Option, nat_eq, nat_le, true, ℕ, ◌&&◌, ◌||◌, ◌≡◌}
+use Rattle.mb_arrayapi.specs.Ours.{IsArrayFrame, IsArrayTask}
 use Rattle.mb_base.specs.declared.value.Side.{Side}
 use Rattle.mb_call.specs.Ours.{IsCallFrame, IsCallTask}
 use Rattle.mb_engine.specs.declared.owners.Owner.{Owner}
-use Rattle.mb_engine.specs.declared.owners.Owner.TheVariants.{Calls, Expressions, Intrinsics, Missing, Nobody, Reflecting}
-use Rattle.mb_engine.specs.declared.owners.Owner.TheVariants.{Statements}
+use Rattle.mb_engine.specs.declared.owners.Owner.TheVariants.{Arrays, Calls, Expressions, Intrinsics, Nobody, Proxies}
+use Rattle.mb_engine.specs.declared.owners.Owner.TheVariants.{Reflecting, Statements}
 use Rattle.mb_eval_expr.specs.Ours.{IsExpressionFrame, IsExpressionTask}
 use Rattle.mb_eval_stmt.specs.Ours.{IsStatementFrame, IsStatementTask, is_statement}
 use Rattle.mb_frames.specs.Kinds.{is_expression}
-use Rattle.mb_frames.specs.Standing.{at_home}
-use Rattle.mb_frames.specs.declared.frame.Frame.{Frame}
-use Rattle.mb_frames.specs.declared.frame.Frame.TheVariants as x
-use Rattle.mb_frames.specs.declared.machine.Machine.{Machine}
 use Rattle.mb_frames.specs.declared.machine.Waiting.{Waiting}
 use Rattle.mb_frames.specs.declared.task.Task.{Task}
-use Rattle.mb_frames.specs.declared.task.Task.TheVariants as t
-use Rattle.mb_engine.specs.Interim.{has_steps}
 use Rattle.mb_intrinsics.specs.Ours.{IsBasicFrame, IsBasicTask}
-use Rattle.mb_reflect.specs.Ours.{IsReflectFrame, IsReflectTask}
 use Rattle.mb_parts.specs.Top.{IsOnTop}
+use Rattle.mb_reflect.specs.Ours.{IsReflectFrame, IsReflectTask}
+use Rattle.mb_scriptproxy.specs.Ours.{IsProxyFrame, IsProxyTask}
 use Rattle.mb_world.specs.Data.{Data}
 use Rattle.mb_world.specs.Form.{Form}
-use Rattle.mb_world.specs.Intrinsics.{intrinsic}
-
--- a built-in whose steps are missing is entered
-abbrev pub IsMissing : Task → Type 0
-IsMissing (t.Run place this arguments target) = has_steps (intrinsic place) ≡ false
-IsMissing task = ⊥
 
 abbrev pub TaskBelongs : Data → Owner → Side → Task → Type 0
 TaskBelongs d Expressions home task = IsExpressionTask d home task
@@ -34,13 +24,9 @@ TaskBelongs d Statements home task = IsStatementTask d home task
 TaskBelongs d Calls home task = IsCallTask d task
 TaskBelongs d Intrinsics home task = IsBasicTask task
 TaskBelongs d Reflecting home task = IsReflectTask task
-TaskBelongs d Missing home task = IsMissing task
+TaskBelongs d Arrays home task = IsArrayTask task
+TaskBelongs d Proxies home task = IsProxyTask d task
 TaskBelongs d Nobody home task = Unit {0}
-
--- it can be one that begins alone
-abbrev pub IsMissingFrame : Frame → Type 0
-IsMissingFrame (x.Begin task) = IsMissing task
-IsMissingFrame frame = ⊥
 
 abbrev pub Belongs : Data → Owner → Waiting → Type 0
 Belongs d Expressions y = IsExpressionFrame d y.home y.frame
@@ -48,7 +34,8 @@ Belongs d Statements y = IsStatementFrame d y.home y.frame
 Belongs d Calls y = IsCallFrame d y.frame
 Belongs d Intrinsics y = IsBasicFrame y.frame
 Belongs d Reflecting y = IsReflectFrame y.frame
-Belongs d Missing y = IsMissingFrame y.frame
+Belongs d Arrays y = IsArrayFrame y.frame
+Belongs d Proxies y = IsProxyFrame d y.frame
 Belongs d Nobody y = Unit {0}
 
 -- the node of that form, where it is there
@@ -58,16 +45,12 @@ OwnsForm Statements form = is_statement form ≡ true
 OwnsForm Nobody form = Unit {0}
 OwnsForm owner form = ⊥
 
--- of what has begun, only calls
+-- of what has begun, only calls and methods of Proxies
 abbrev pub BegunBelongs : Data → Owner → Task → Type 0
 BegunBelongs d Calls task = IsCallTask d task
+BegunBelongs d Proxies task = IsProxyTask d task
 BegunBelongs d Nobody task = Unit {0}
 BegunBelongs d owner task = ⊥
-
--- of what starts anew, no built-in that is missing
-abbrev pub AnewBelongs : Data → Owner → Side → Task → Type 0
-AnewBelongs d Missing home task = ⊥
-AnewBelongs d owner home task = TaskBelongs d owner home task
 
 abbrev pub OwnsEntry : Data → Owner → Type 0
 OwnsEntry d Calls = d.joined ≡ true
@@ -82,12 +65,8 @@ IsTopOf d Statements stack = IsOnTop (Belongs d Statements) stack
 IsTopOf d Calls stack = IsOnTop (Belongs d Calls) stack
 IsTopOf d Intrinsics stack = IsOnTop (Belongs d Intrinsics) stack
 IsTopOf d Reflecting stack = IsOnTop (Belongs d Reflecting) stack
-IsTopOf d Missing stack = IsOnTop (Belongs d Missing) stack
-
--- the top frame, of that home, was taken away
-pub record TookTop (m m' : Machine) (home : Side) : Type 0 where
-  pub frame : Frame
-  pub was : m.stack.items ≡ m'.stack.items ++ (at_home home frame ∷ [])
+IsTopOf d Arrays stack = IsOnTop (Belongs d Arrays) stack
+IsTopOf d Proxies stack = IsOnTop (Belongs d Proxies) stack
 
 -- the places of the basic built-ins
 abbrev pub basic_place : ℕ → Bool
@@ -101,3 +80,11 @@ is_within first last n = nat_le first n && nat_le n last
 abbrev pub reflect_place : ℕ → Bool
 reflect_place n =
     nat_eq n 3 || nat_eq n 5 || nat_eq n 56 || is_within 8 23 n || is_within 35 47 n || is_within 49 54 n
+
+-- the places of Array, Array.prototype and their members
+abbrev pub array_place : ℕ → Bool
+array_place n = nat_eq n 4 || is_within 24 34 n
+
+-- the places of Proxy and Proxy.revocable
+abbrev pub proxy_place : ℕ → Bool
+proxy_place n = nat_eq n 6 || nat_eq n 48

@@ -1,5 +1,5 @@
-// Rows of Object, Reflect, the error constructors and Function.prototype. Each text was written by hand, its units by the
-// definitions of the meaning.
+// Rows of Object, Reflect, the error constructors and Function.prototype. Each text was written by hand, its units by
+// the definitions of the meaning.
 use super::rows::Row;
 
 pub(super) const OBJECTS: &[Row] = &[

@@ -1,11 +1,14 @@
 // Rows of steps, as scripts.
+use super::array_members::ARRAY_MEMBERS;
 use super::built_ins::BUILT_INS;
 use super::calls::CALLS;
 use super::driver::{has_printed, ran};
 use super::expressions::EXPRESSIONS;
 use super::methods::METHODS;
+use super::mixed::MIXED;
 use super::objects::OBJECTS;
 use super::operators::{HEAD, OPERATORS, TAIL};
+use super::proxies::{PROXIES, PROXIES_FURTHER};
 use super::rows::{each_budget_holds, joined, rows_hold};
 use super::statements::STATEMENTS;
 use crate::TurnEnd;
@@ -82,4 +85,44 @@ fn rows_of_objects(rt: HostRuntime) {
 #[test]
 fn objects_with_each_budget(rt: HostRuntime) {
     each_budget_holds(&rt, rt.alloc(), OBJECTS);
+}
+
+#[test]
+fn rows_of_mixed_members(rt: HostRuntime) {
+    rows_hold(&rt, rt.alloc(), MIXED);
+}
+
+#[test]
+fn mixed_members_with_each_budget(rt: HostRuntime) {
+    each_budget_holds(&rt, rt.alloc(), MIXED);
+}
+
+#[test]
+fn rows_of_array_members(rt: HostRuntime) {
+    rows_hold(&rt, rt.alloc(), ARRAY_MEMBERS);
+}
+
+#[test]
+fn array_members_with_each_budget(rt: HostRuntime) {
+    each_budget_holds(&rt, rt.alloc(), ARRAY_MEMBERS);
+}
+
+#[test]
+fn rows_of_proxies(rt: HostRuntime) {
+    rows_hold(&rt, rt.alloc(), PROXIES);
+}
+
+#[test]
+fn proxies_with_each_budget(rt: HostRuntime) {
+    each_budget_holds(&rt, rt.alloc(), PROXIES);
+}
+
+#[test]
+fn further_rows_of_proxies(rt: HostRuntime) {
+    rows_hold(&rt, rt.alloc(), PROXIES_FURTHER);
+}
+
+#[test]
+fn further_proxies_with_each_budget(rt: HostRuntime) {
+    each_budget_holds(&rt, rt.alloc(), PROXIES_FURTHER);
 }

@@ -12,7 +12,8 @@ use Rattle.mb_frames.specs.declared.machine.Halt.TheVariants.{Spent as SpentHalt
 use Rattle.mb_model.specs.Task.{Answer, Value as ValueAnswer}
 use Rattle.mb_model.specs.Writing.{Does, Row, fail}
 use Rattle.mb_tree.specs.declared.kind.Sign.{Sign}
-use Rattle.mb_tree.specs.declared.kind.Sign.TheVariants.{Greater, GreaterEqual, Less, LessEqual, Minus, Percent, Slash, Times}
+use Rattle.mb_tree.specs.declared.kind.Sign.TheVariants.{Greater, GreaterEqual, Less, LessEqual, Minus, Percent, Slash}
+use Rattle.mb_tree.specs.declared.kind.Sign.TheVariants.{Times}
 use Rattle.mb_world.specs.Data.{Data}
 use Rattle.mb_world.specs.Graph.{Graph}
 use Rattle.mb_world.specs.Ids.{ValueIn}

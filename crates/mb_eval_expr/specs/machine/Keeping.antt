@@ -8,7 +8,7 @@ use Rattle.mb_eval_expr.specs.declared.computing.Computed.{Computed}
 use Rattle.mb_eval_expr.specs.declared.computing.Computed.TheVariants as c
 use Rattle.mb_eval_expr.specs.declared.targets.Target.{Target}
 use Rattle.mb_eval_expr.specs.declared.targets.Target.TheVariants as t
-use Rattle.mb_frames.specs.Held.{Held, HeldArray, HeldNode, HeldPlain, HeldScope, HeldText, HeldValue}
+use Rattle.mb_frames.specs.Held.{Held, HeldNode, HeldPlain, HeldScope, HeldText, HeldValue}
 use Rattle.mb_frames.specs.Kinds.{is_expression}
 use Rattle.mb_frames.specs.Ready.{Holds, IsReady, Leaves}
 use Rattle.mb_frames.specs.Sorts.{AValue}
@@ -24,10 +24,7 @@ Leaving home held m d = IsReady d → home.0 < d.sides → Holds d home held →
 abbrev pub context_held : Context → List Held
 context_held at = HeldScope at.scope ∷ HeldValue at.this ∷ []
 
--- what stands in an array that is made, and in an object
-abbrev pub array_held : ObjId → List Held
-array_held id = HeldArray id ∷ []
-
+-- what stands in an object that is made
 abbrev pub plain_held : ObjId → List Held
 plain_held id = HeldPlain id ∷ []
 

@@ -1,5 +1,6 @@
 -- Literals of objects.
-use Rattle.std.specs.Prelude.{◌+◌, ◌∷◌, ◌≡◌, Err, List, None, Ok, Option, Result, Some, [], codes, drop, length, slice_get, true, ℕ}
+use Rattle.std.specs.Prelude.{◌+◌, ◌∷◌, ◌≡◌, Err, List, None, Ok, Option, Result, Some, [], codes, drop, length}
+use Rattle.std.specs.Prelude.{slice_get, true, ℕ}
 use Rattle.mb_base.specs.declared.value.NodeId.{NodeId}
 use Rattle.mb_base.specs.declared.value.Side.{Side}
 use Rattle.mb_base.specs.declared.value.Value.{Value}
@@ -7,7 +8,7 @@ use Rattle.mb_desc.specs.declared.descriptor.Desc.{Desc}
 use Rattle.mb_eval_expr.specs.declared.definitions.Definition.{Definition}
 use Rattle.mb_eval_expr.specs.declared.definitions.Definition.TheVariants as def
 use Rattle.mb_eval_expr.specs.declared.props.Literal.{Literal}
-use Rattle.mb_eval_expr.specs.machine.Storing.{opened}
+use Rattle.mb_parts.specs.Storing.{opened}
 use Rattle.mb_frames.specs.Going.{WentOn}
 use Rattle.mb_frames.specs.Held.{Held, HeldNode, HeldPlain, HeldScope, HeldValue}
 use Rattle.mb_frames.specs.Kinds.{Expression, is_object_form}

@@ -5,7 +5,8 @@ use Rattle.mb_desc.specs.Validate.{Validate}
 use Rattle.mb_world.specs.Form.{ScriptForm, ExprStmtForm, NameForm, NumberForm, TextForm, ObjectForm, MemberForm, AssignForm, CallForm, NewForm, BinaryForm}
 use Rattle.mb_world.specs.Graph.{Program, Rule}
 use Rattle.mb_model.specs.Engine.{given}
-use Rattle.mb_model.specs.Story.{Stage, Letter, Story}
+use Rattle.mb_model.specs.Story.{Stage, Letter}
+use Rattle.mb_rows.specs.Collecting.{StoryWithCollections}
 use Rattle.mb_rows.specs.Shows.{Shows}
 
 -- run
@@ -63,7 +64,7 @@ told =
     []
 
 abbrev stage : Stage
-stage = Story (left ∷ right ∷ []) policy schedule 1000000
+stage = StoryWithCollections (left ∷ right ∷ []) policy schedule 1000000
 
 pub Row : Type 0
 Row = Shows false false stage told

@@ -5,7 +5,8 @@ use Rattle.mb_desc.specs.Validate.{Validate}
 use Rattle.mb_world.specs.Form.{Written, ScriptForm, ExprStmtForm, ParamForm, NameForm, NumberForm, ArrayForm, ObjectForm, ValueForm, ArrowForm, GroupForm, MemberForm, AssignForm, CallForm, UnaryForm, BinaryForm}
 use Rattle.mb_world.specs.Graph.{Program, Rule}
 use Rattle.mb_model.specs.Engine.{given}
-use Rattle.mb_model.specs.Story.{Stage, Letter, Story}
+use Rattle.mb_model.specs.Story.{Stage, Letter}
+use Rattle.mb_rows.specs.Collecting.{StoryWithCollections}
 use Rattle.mb_rows.specs.Shows.{bound, Shows}
 
 -- run --trace
@@ -62,7 +63,7 @@ told =
     []
 
 abbrev stage : Stage
-stage = Story (left ∷ right ∷ []) policy schedule 1000000
+stage = StoryWithCollections (left ∷ right ∷ []) policy schedule 1000000
 
 pub Row : Type 0
 Row = Shows true false stage told × (stage.left ≡ 999926)

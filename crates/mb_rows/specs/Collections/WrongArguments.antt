@@ -6,7 +6,8 @@ use Rattle.mb_world.specs.Value.{Undefined}
 use Rattle.mb_world.specs.Form.{ScriptForm, LetForm, DeclForm, BlockForm, ExprStmtForm, TryForm, ParamForm, NameForm, NumberForm, TextForm, LiteralForm, ArrayForm, ObjectForm, ArrowForm, MemberForm, CallForm, NewForm, BinaryForm}
 use Rattle.mb_world.specs.Graph.{Program, Rule}
 use Rattle.mb_model.specs.Engine.{given}
-use Rattle.mb_model.specs.Story.{Stage, Letter, Story}
+use Rattle.mb_model.specs.Story.{Stage, Letter}
+use Rattle.mb_rows.specs.Collecting.{StoryWithCollections}
 use Rattle.mb_rows.specs.Shows.{bound, Shows}
 
 -- run
@@ -114,7 +115,7 @@ told =
     []
 
 abbrev stage : Stage
-stage = Story (left ∷ right ∷ []) policy schedule 1000000
+stage = StoryWithCollections (left ∷ right ∷ []) policy schedule 1000000
 
 pub Row : Type 0
 Row = Shows false false stage told

@@ -18,7 +18,7 @@ returns-clause-part c = λ home viewer a f t e.
     let d = c.args.w.now in
     let o = c.args.object in
     let k = there d o a.holds.0.within in
-    let m = no-membrane d a.ready home o a.holds.0 k.0 k.1 (rw k.1 at c.requires) in
+    let m = no-membrane d a.ready home o a.holds.0 k.0 k.1 (rw k.1 at c.requires.ordinary) in
     rw c.prevent.ensures.closed
     (part-changed d a.ready home o k.0 k.1 m closed
     (λ place q. ap (λ x. let y : Cell = record k.0 { extensible = x } in y)
@@ -31,7 +31,7 @@ returns-clause-keeps c = λ home a.
     let d = c.args.w.now in
     let o = c.args.object in
     let k = there d o a.holds.0.within in
-    let m = no-membrane d a.ready home o a.holds.0 k.0 k.1 (rw k.1 at c.requires) in
+    let m = no-membrane d a.ready home o a.holds.0 k.0 k.1 (rw k.1 at c.requires.ordinary) in
     rw c.prevent.ensures.closed
     (keeps-left home AFlag c.yes_or_no.result d (change_cell d o closed)
     (kept-changed d a.ready home o k.0 k.1 m closed

@@ -4,7 +4,7 @@ use Rattle.mb_base.specs.declared.value.Value.TheVariants as v
 use Rattle.mb_call.proofs.Calling.{constructs-function, constructs-none, kind-is, owner-else}
 use Rattle.mb_call.proofs.Owners.{acts-owner, side-is}
 use Rattle.mb_call.proofs.constructions.construct.Goals as goal
-use Rattle.mb_call.specs.machine.Acting.{owner_by}
+use Rattle.mb_call.specs.Owners.{owner_by}
 use Rattle.mb_frames.proofs.Calling.{construct-runs}
 use Rattle.mb_frames.proofs.HeldCells.{cell-held, reads-home}
 use Rattle.mb_frames.proofs.HeldLess.{as-function, text-if-held}

@@ -7,7 +7,7 @@ use Rattle.mb_world.specs.Image.{names_of}
 use Rattle.mb_world.specs.Key.{Named}
 
 pub key_of_word-requires : goal.key_of_word-requires
-key_of_word-requires c = rw c.field_units.ensures (field-short c.args.field)
+key_of_word-requires c = record { units = rw c.field_units.ensures (field-short c.args.field) }
 
 pub returns-clause-key : goal.returns-clause-key
 returns-clause-key c =

@@ -4,7 +4,7 @@ use Rattle.mb_call.proofs.FunctionEntered.{entered-function, entered-row, enters
 use Rattle.mb_call.proofs.entering.enter_row.Goals as goal
 use Rattle.mb_call.proofs.entering.enter_row.Goals.{In-Function}
 use Rattle.mb_call.specs.Ours.{Acts}
-use Rattle.mb_call.specs.machine.Acting.{owner_by, owner_of}
+use Rattle.mb_call.specs.Owners.{owner_by, owner_of}
 use Rattle.mb_frames.proofs.Passed.{Part-by}
 use Rattle.mb_frames.specs.Holding.{task_held}
 use Rattle.mb_frames.specs.Passing.{Part}

@@ -22,7 +22,7 @@ returns-clause-step c = λ home f l a u.
       given = c.given_of.ensures;
     } in
     rw e.is
-    (Step-entering d a.ready home e.method e.object e.viewer y i (rw e.is at a.holds) e.enters (rw e.is at u) f l)
+    (Step-entering d home e.method e.object e.viewer y i (rw e.is at a.holds) e.enters (rw e.is at u) f l)
 
 pub returns-clause-leaves : goal.returns-clause-leaves
 returns-clause-leaves c = λ home a u.
@@ -43,4 +43,4 @@ returns-clause-leaves c = λ home a u.
       given = c.given_of.ensures;
     } in
     rw e.is
-    (leaves-entering d a.ready home e.method e.object e.viewer y i (rw e.is at a.holds) e.enters (rw e.is at u))
+    (leaves-entering d home e.method e.object e.viewer y i (rw e.is at a.holds) e.enters (rw e.is at u))

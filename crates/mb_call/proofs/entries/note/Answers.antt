@@ -10,7 +10,7 @@ pub returns-clause-step : goal.returns-clause-step
 returns-clause-step c = λ f.
     Step-made c.args.w.now c.add_entry.new.self c.in_ok-entry.entry c.in_ok-add_entry.ensures.added c.args.home
     c.args.outcome _ c.in_ok-entry.ensures.entry f (written c.args.lines.now) (written c.write_last.new.lines)
-    c.in_ok-write_last.ensures c.requires.outcome
+    c.in_ok-write_last.ensures.written c.requires.outcome
 
 pub returns-clause-keeps : goal.returns-clause-keeps
 returns-clause-keeps c = λ wanted given k q.

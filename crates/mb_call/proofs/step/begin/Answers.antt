@@ -2,6 +2,7 @@ use Rattle.std.proofs.Common.{◌-◌, ◌≡◌, ◌≤◌, ◌∙◌, Bool, ap
 use Rattle.std.proofs.lemmas.Result.{err_from_is_err_and}
 use Rattle.mb_base.specs.declared.value.Side.{Side}
 use Rattle.mb_call.proofs.Due.{due-method}
+use Rattle.mb_call.proofs.EntryRows.{due-foreign-task}
 use Rattle.mb_call.proofs.step.begin.Goals as goal
 use Rattle.mb_call.specs.machine.Acting.{begun_side}
 use Rattle.mb_frames.proofs.Keeping.{keeps-halted, keeps-same}
@@ -32,7 +33,7 @@ returns-then-is_due-clause-step c = λ l.
     let s : c.args.side ≡ home = c.requires.side ∙ ap (λ (b : Bool). begun_side b d home c.args.task) due in
     subst (λ (z : Side). Step z false c.entered.result d d f f l l
     (charged_row row (task_in (names_of d) home.0 c.args.task))) (sym s)
-    (c.entered.ensures.step home f l c.requires.acts due)
+    (c.entered.ensures.step home f l c.requires.acts (due-foreign-task d home c.args.task c.requires.acts due))
 
 pub returns-then-is_due-clause-keeps : goal.returns-then-is_due-clause-keeps
 returns-then-is_due-clause-keeps c =
@@ -42,7 +43,7 @@ returns-then-is_due-clause-keeps c =
     let s : c.args.side ≡ home = c.requires.side ∙ ap (λ (b : Bool). begun_side b d home c.args.task) due in
     subst (λ (z : Side). KeepsBy z (task_gives (forms_at d home) c.args.task) c.entered.result d d) (sym s)
     (keeps-same home (task_gives (forms_at d home) c.args.task) c.entered.result d c.requires.acts.ready
-    (c.entered.ensures.leaves home c.requires.acts due))
+    (c.entered.ensures.leaves home c.requires.acts (due-foreign-task d home c.args.task c.requires.acts due)))
 
 -- ---- none is due
 

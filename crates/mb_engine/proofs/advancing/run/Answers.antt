@@ -1,5 +1,5 @@
 use Rattle.mb_engine.proofs.Reaching.{reached-step}
-use Rattle.mb_engine.specs.machine.Advancing.{now}
+use Rattle.mb_engine.specs.machine.Advancing.{meant}
 use Rattle.mb_frames.proofs.Forming.{Found-then}
 use Rattle.mb_frames.specs.Standing.{RestBy}
 use Rattle.mb_frames.specs.Stepping.{written}
@@ -12,7 +12,7 @@ steps-preserved c = record {
   reached = λ log e.
       reached-step c.steps.m c.advance.new.m c.steps.w c.advance.new.w c.steps.fuel c.advance.new.fuel
       (written c.args.lines.now) (written c.steps.lines) (written c.advance.new.lines) log
-      (RestBy now c.args.m.now c.args.w.now c.args.fuel.now log) (c.steps.invariant.reached log e)
+      (RestBy meant c.args.m.now c.args.w.now c.args.fuel.now log) (c.steps.invariant.reached log e)
       c.in_ok-advance.ensures.rest;
 }
 

@@ -1,5 +1,5 @@
 use Rattle.std.proofs.Common.{List}
-use Rattle.mb_engine.specs.machine.Advancing.{Reached, now}
+use Rattle.mb_engine.specs.machine.Advancing.{Reached, meant}
 use Rattle.mb_frames.specs.Ready.{IsReadyMachine}
 use Rattle.mb_frames.specs.Standing.{Logged, RestBy}
 use Rattle.mb_frames.specs.Stepping.{weight, written}
@@ -12,7 +12,7 @@ invariant-steps l = record {
   ready : IsReadyMachine l.w l.m;
   found : StaysFound l.fn.w l.w;
   reached : (log : List Item) → Logged l.fn.w log →
-      Reached l.m l.w l.fuel (written l.fn.lines) (written l.lines) log (RestBy now l.fn.m l.fn.w l.fn.fuel log);
+      Reached l.m l.w l.fuel (written l.fn.lines) (written l.lines) log (RestBy meant l.fn.m l.fn.w l.fn.fuel log);
 }
 
 abbrev pub decreases-steps : goal.decreases-steps

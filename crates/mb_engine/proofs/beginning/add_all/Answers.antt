@@ -1,4 +1,5 @@
-use Rattle.mb_engine.proofs.Begins.{begins, desk-found, no-cells, no-scopes, now-ready, now-sides, some-desk, two-joined}
+use Rattle.mb_engine.proofs.Begins.{begins, desk-found, no-cells, no-scopes, now-ready, now-sides, some-desk}
+use Rattle.mb_engine.proofs.Begins.{two-joined}
 use Rattle.mb_intrinsics.proofs.Homes.{on-ok}
 use Rattle.mb_engine.proofs.beginning.add_all.Goals as goal
 

@@ -1,4 +1,5 @@
-use Rattle.mb_eval_expr.proofs.Joining.{Computes-joined, Computes-no-left, Computes-no-right, TextsGrew-then, err-then, grew-then}
+use Rattle.mb_eval_expr.proofs.Joining.{Computes-joined, Computes-no-left, Computes-no-right, TextsGrew-then, err-then}
+use Rattle.mb_eval_expr.proofs.Joining.{grew-then}
 use Rattle.mb_parts.proofs.Writing.{TextsGrew-same}
 use Rattle.std.proofs.lemmas.Result.{err_from_is_err_and}
 use Rattle.mb_world.specs.Data.{Data}

@@ -23,7 +23,7 @@ use Rattle.mb_eval_expr.proofs.elements.array_row.Goals as goal
 pub returns-clause-row : goal.returns-clause-row
 returns-clause-row c = λ f.
     let d = c.args.w.now in
-    let d' : Data = c.make_array.new.w in
+    let d' : Data = c.empty_array.new.w in
     let n = names_of d in
     let s = c.args.home.0 in
     let x = context_in n s c.args.at in
@@ -43,12 +43,12 @@ returns-clause-row c = λ f.
 pub returns-in_err-array-clause-keeps : goal.returns-in_err-array-clause-keeps
 returns-in_err-array-clause-keeps c = λ r i h.
     let p = err_from_is_err_and c.from_residual.result c.from_residual.ensures.1 in
-    rw p.1 (kept-halted c.args.home c.args.w.now c.make_array.new.w (c.in_err-array.ensures.keeps r i tt).changed)
+    rw p.1 (kept-halted c.args.home c.args.w.now c.empty_array.new.w (c.in_err-array.ensures.keeps r i tt).changed)
 
 pub returns-clause-keeps : goal.returns-clause-keeps
 returns-clause-keeps c = λ r i h.
     let d = c.args.w.now in
-    let d' : Data = c.make_array.new.w in
+    let d' : Data = c.empty_array.new.w in
     let home = c.args.home in
     let k = c.in_ok-array.ensures.keeps r i tt in
     let g = holds-still home d d' r k.changed (HeldNode is_array_form c.args.node.0 ∷ context_held c.args.at) h in

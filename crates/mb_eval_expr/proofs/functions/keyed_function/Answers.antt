@@ -13,7 +13,7 @@ use Rattle.mb_frames.specs.Going.{WentOn}
 use Rattle.mb_model.specs.Operations.Makings.{make_function}
 use Rattle.mb_world.specs.Value.{Val}
 use Rattle.mb_parts.proofs.Acting.{ready-acts}
-use Rattle.mb_eval_expr.proofs.Fresh.{Acts-prototypes}
+use Rattle.mb_parts.proofs.Fresh.{Acts-prototypes}
 use Rattle.mb_world.specs.declared.cell.Code.{Code}
 use Rattle.mb_eval_expr.proofs.functions.keyed_function.Goals as goal
 

@@ -1,5 +1,5 @@
 use Rattle.std.proofs.Common.{Ok}
-use Rattle.mb_eval_expr.proofs.Fresh.{Acts-prototypes}
+use Rattle.mb_parts.proofs.Fresh.{Acts-prototypes}
 use Rattle.mb_frames.proofs.Going.{Makes-passes}
 use Rattle.mb_frames.proofs.Passed.{Part-passed, Part-sure}
 use Rattle.mb_frames.specs.Resolved.{label_in}

@@ -1,6 +1,6 @@
 use Rattle.std.proofs.Common.{◌∷◌, None, Some, [], refl, true}
 use Rattle.std.proofs.lemmas.List.Elements.{All-cons, All-nil}
-use Rattle.mb_eval_expr.proofs.Fresh.{Acts-prototypes}
+use Rattle.mb_parts.proofs.Fresh.{Acts-prototypes}
 use Rattle.mb_eval_expr.proofs.Scoping.{Acts-scope, Grew-scope, Part-named, scope-added, scope-in}
 use Rattle.mb_frames.proofs.Forms.{CanRun-grows}
 use Rattle.mb_model.specs.Nodes.Scopes.{binding, scope}

@@ -1,6 +1,6 @@
 use Rattle.std.proofs.Common.{None, [], refl, ◌∙◌}
 use Rattle.mb_base.specs.declared.value.Value.{Value}
-use Rattle.mb_eval_expr.proofs.Fresh.{Acts-made, plain-thing, made-of-kind, made-went}
+use Rattle.mb_parts.proofs.Fresh.{Acts-made, plain-thing, made-of-kind, made-went}
 use Rattle.mb_world.proofs.AfterCalls.{of-made}
 use Rattle.mb_world.proofs.Images.{value-grows}
 use Rattle.mb_world.specs.Data.{Data, made}
@@ -9,7 +9,7 @@ use Rattle.mb_world.specs.Objects.{new_thing}
 use Rattle.mb_world.specs.Standard.{object_prototype}
 use Rattle.mb_world.specs.declared.cell.CellKind.TheVariants.{Plain}
 use Rattle.std.proofs.lemmas.List.Elements.{All-nil}
-use Rattle.mb_eval_expr.proofs.Fresh.{bare-may}
+use Rattle.mb_parts.proofs.Fresh.{bare-may}
 use Rattle.mb_eval_expr.specs.machine.Keeping.{plain_held}
 use Rattle.mb_frames.proofs.Halting.{halted-same}
 use Rattle.mb_frames.proofs.HeldAs.{made-held}

@@ -2,7 +2,8 @@ use Rattle.std.proofs.Common.{SFits, rules, of_z, to_z, w64, ℤ, ap, refl, slic
 use Rattle.std.proofs.lemmas.Int.{to_z-of_z}
 use Rattle.mb_eval_expr.proofs.Keeping.{waits-node}
 use Rattle.mb_eval_expr.proofs.PropsInOrder.{definition-grows, keyed-row}
-use Rattle.mb_eval_expr.proofs.Propping.{Defines-by, Defines-texts, Sure-computed, no-prop, prop-form, prop-is, rest-grow}
+use Rattle.mb_eval_expr.proofs.Propping.{Defines-by, Defines-texts, Sure-computed, no-prop, prop-form, prop-is}
+use Rattle.mb_eval_expr.proofs.Propping.{rest-grow}
 use Rattle.mb_parts.proofs.Texting.{texts-changed}
 use Rattle.mb_parts.proofs.Writing.{Grew-texts}
 use Rattle.mb_eval_expr.specs.machine.Literals.{literal_held, rest_of}

@@ -2,7 +2,7 @@ use Rattle.std.proofs.Common.{◌+◌, sym}
 use Rattle.std.proofs.lemmas.Result.{err_from_is_err_and}
 use Rattle.mb_eval_expr.proofs.Keeping.{kept-halted, kept-then, stays}
 use Rattle.mb_eval_expr.proofs.Listing.{Part-same}
-use Rattle.mb_eval_expr.proofs.Describing.{opened-held}
+use Rattle.mb_parts.proofs.Opened.{opened-held}
 use Rattle.mb_eval_expr.proofs.Propping.{from_place, place-grow}
 use Rattle.mb_frames.proofs.Going.{WentOn-free, WentOn-passes}
 use Rattle.mb_frames.proofs.Keeping.{inside-still}

@@ -1,7 +1,5 @@
-use Rattle.std.proofs.Common.{◌||◌, Bool, ap, refl, sym, ◌∙◌, ◌≡◌, ◌∷◌, []}
+use Rattle.std.proofs.Common.{◌||◌, refl, sym, ◌∙◌}
 use Rattle.mb_frames.proofs.HeldLess.{value-object}
-use Rattle.mb_frames.specs.Held.{HeldObject, HeldPrototype}
-use Rattle.mb_frames.specs.Ready.{Holds}
 use Rattle.mb_frames.specs.Sorts.{AValue}
 use Rattle.mb_frames.specs.declared.reflecting.ReflectFrame.TheVariants as r
 use Rattle.mb_frames.specs.declared.task.Method.TheVariants as m

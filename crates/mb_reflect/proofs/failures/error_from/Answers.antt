@@ -1,4 +1,4 @@
-use Rattle.std.proofs.Common.{ap, subst, sym, ◌∙◌, ℕ, ◌≡◌}
+use Rattle.std.proofs.Common.{ap, subst, sym, ◌∙◌, ℕ}
 use Rattle.mb_frames.specs.Passing.{Part}
 use Rattle.mb_model.specs.BuiltIns.Arguments.{prototype_or}
 use Rattle.mb_model.specs.BuiltIns.ErrorsAndFunctions.{error_made}

@@ -1,4 +1,4 @@
-use Rattle.std.proofs.Common.{Bool, None, [], ap, arith, false, refl, sym, ◌∙◌, ◌∷◌}
+use Rattle.std.proofs.Common.{Bool, None, [], ap, arith, refl, sym, ◌∙◌, ◌∷◌}
 use Rattle.std.specs.Prelude.{if◌then◌else◌}
 use Rattle.std.proofs.lemmas.Result.{err_from_is_err_and}
 use Rattle.mb_frames.proofs.HeldAs.{made-there}
@@ -18,7 +18,7 @@ use Rattle.mb_world.proofs.Images.{value-grows}
 use Rattle.mb_world.specs.Data.{new_cell}
 use Rattle.mb_world.specs.Graph.{Graph}
 use Rattle.mb_world.specs.Image.{Image, Resolve, names_of, object_in}
-use Rattle.mb_world.specs.Value.{Val, is_undefined}
+use Rattle.mb_world.specs.Value.{Val}
 use Rattle.mb_world.specs.declared.cell.CellKind.TheVariants as kind
 
 pub make-requires-clause-home : goal.make-requires-clause-home

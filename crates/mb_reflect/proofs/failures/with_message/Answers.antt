@@ -1,4 +1,4 @@
-use Rattle.std.proofs.Common.{arith, refl, ◌∷◌, []}
+use Rattle.std.proofs.Common.{refl, ◌∷◌, []}
 use Rattle.std.proofs.lemmas.Result.{err_from_is_err_and}
 use Rattle.mb_frames.proofs.HeldLess.{text-value-held, value-datum}
 use Rattle.mb_frames.proofs.Keeping.{inside-still, keeps-halted, keeps-then}

@@ -1,7 +1,6 @@
-use Rattle.std.proofs.Common.{Bool, Ok, ap, drop, false, sym, ◌∙◌}
+use Rattle.std.proofs.Common.{Bool, ap, drop, false, sym, ◌∙◌}
 use Rattle.std.specs.Prelude.{if◌then◌else◌}
 use Rattle.mb_base.specs.declared.value.Value.TheVariants as v
-use Rattle.mb_desc.specs.Descriptors.{property_is}
 use Rattle.mb_frames.proofs.HeldLess.{flag-held}
 use Rattle.mb_frames.specs.Resolved.{keys_of, real_in}
 use Rattle.mb_frames.specs.Sorts.{AValue}
@@ -9,7 +8,7 @@ use Rattle.mb_model.specs.BuiltIns.ObjectMembers.{frozen_key, frozen_keys}
 use Rattle.mb_model.specs.Meaning.{finished}
 use Rattle.mb_model.specs.Task.{Answer}
 use Rattle.mb_model.specs.Writing.{Does, truth}
-use Rattle.mb_reflect.proofs.Doing.{done-by, done-value, given, keeps-given}
+use Rattle.mb_reflect.proofs.Doing.{done-by, done-value, keeps-given}
 use Rattle.mb_reflect.proofs.freezing.frozen_read.Goals as goal
 use Rattle.mb_world.specs.Image.{Image, names_of, object_in}
 

@@ -1,4 +1,4 @@
-use Rattle.std.proofs.Common.{Bool, [], ap, refl, sym, ◌∙◌, ◌∷◌}
+use Rattle.std.proofs.Common.{Bool, [], ap, refl, sym, ◌∙◌}
 use Rattle.std.specs.Prelude.{if◌then◌else◌}
 use Rattle.mb_frames.proofs.Apartness.{value-real}
 use Rattle.mb_frames.proofs.HeldLess.{called, value-object, values-none}
@@ -12,7 +12,7 @@ use Rattle.mb_model.specs.Writing.{Does}
 use Rattle.mb_reflect.proofs.Callees.{done-called, done-uncalled}
 use Rattle.mb_reflect.proofs.Doing.{done-by, done-passed-on, keeps-passed-on}
 use Rattle.mb_reflect.proofs.functions.function_apply.Goals as goal
-use Rattle.mb_world.specs.Image.{Image, Resolve, names_of, object_in}
+use Rattle.mb_world.specs.Image.{Image, Resolve, names_of}
 use Rattle.mb_world.specs.Value.{Val, is_nullish}
 use Rattle.std.proofs.Common.{ℕ}
 

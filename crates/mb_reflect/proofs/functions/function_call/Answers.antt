@@ -1,6 +1,5 @@
-use Rattle.std.proofs.Common.{List, ap, drop, refl, ◌∙◌, ◌∷◌}
+use Rattle.std.proofs.Common.{List, ap, drop, refl, ◌∙◌}
 use Rattle.std.proofs.lemmas.Result.{err_from_is_err_and}
-use Rattle.mb_base.specs.declared.value.Value.TheVariants as v
 use Rattle.mb_frames.proofs.Apartness.{value-real}
 use Rattle.mb_frames.proofs.HeldLess.{value-object}
 use Rattle.mb_frames.specs.Resolved.{values_in}

@@ -1,4 +1,4 @@
-use Rattle.std.proofs.Common.{[], ap, subst, sym, ◌∙◌, ◌≡◌}
+use Rattle.std.proofs.Common.{[], ap, subst, sym, ◌≡◌}
 use Rattle.mb_base.specs.declared.value.Value.{Value}
 use Rattle.mb_frames.proofs.Apartness.{value-real}
 use Rattle.mb_frames.proofs.HeldLess.{constructs}

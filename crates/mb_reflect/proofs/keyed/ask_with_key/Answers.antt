@@ -1,4 +1,4 @@
-use Rattle.std.proofs.Common.{◌∷◌, [], ℕ}
+use Rattle.std.proofs.Common.{◌∷◌}
 use Rattle.std.proofs.lemmas.Result.{err_from_is_err_and}
 use Rattle.mb_frames.proofs.HeldLess.{key-held, value-object}
 use Rattle.mb_frames.proofs.Keeping.{inside-still, keeps-then}

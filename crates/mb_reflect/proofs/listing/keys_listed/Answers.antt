@@ -1,5 +1,5 @@
 use Rattle.std.specs.List.{filter}
-use Rattle.std.proofs.Common.{◌∷◌, List, [], ap, not, sym}
+use Rattle.std.proofs.Common.{List, [], ap, not, sym}
 use Rattle.std.proofs.lemmas.Result.{err_from_is_err_and}
 use Rattle.mb_frames.proofs.HeldLess.{values-none}
 use Rattle.mb_frames.proofs.Passed.{Part-by}

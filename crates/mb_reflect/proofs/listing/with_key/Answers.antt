@@ -1,4 +1,4 @@
-use Rattle.std.proofs.Common.{Bool, List, ap, sym, ◌++◌, ◌∙◌, ◌∷◌, []}
+use Rattle.std.proofs.Common.{Bool, ap, sym, ◌++◌, ◌∙◌, ◌∷◌, []}
 use Rattle.std.proofs.lemmas.List.{map-append}
 use Rattle.std.specs.Prelude.{if◌then◌else◌}
 use Rattle.mb_frames.proofs.HeldLess.{values-more}

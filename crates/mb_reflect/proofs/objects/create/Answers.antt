@@ -1,5 +1,4 @@
 use Rattle.std.proofs.Common.{◌||◌, refl, sym, ◌∙◌}
-use Rattle.mb_call.specs.Ours.{Acts}
 use Rattle.mb_frames.specs.Sorts.{AValue}
 use Rattle.mb_model.specs.BuiltIns.ObjectMembers.{plain_from}
 use Rattle.mb_model.specs.Writing.{◌>>=◌, unless_type_error}

@@ -1,11 +1,11 @@
-use Rattle.std.proofs.Common.{[], ◌∷◌, refl, sym}
+use Rattle.std.proofs.Common.{refl}
 use Rattle.std.proofs.lemmas.Result.{err_from_is_err_and}
 use Rattle.mb_base.specs.declared.value.Value.TheVariants as v
 use Rattle.mb_frames.proofs.HeldLess.{real-full, undefined-held}
-use Rattle.mb_frames.proofs.Keeping.{keeps-halted, keeps-then}
+use Rattle.mb_frames.proofs.Keeping.{keeps-halted}
 use Rattle.mb_frames.specs.Sorts.{AValue}
 use Rattle.mb_reflect.proofs.Described.{desc-held, done-described}
-use Rattle.mb_reflect.proofs.Doing.{done-value, keeps-given, keeps-object}
+use Rattle.mb_reflect.proofs.Doing.{done-value, keeps-given}
 use Rattle.mb_reflect.proofs.objects.described.Goals as goal
 
 pub returns-in-None-clause-part : goal.returns-in-None-clause-part

@@ -1,4 +1,3 @@
-use Rattle.std.proofs.Common.{refl, sym}
 use Rattle.mb_reflect.proofs.objects.object_from.Goals as goal
 
 pub prototype_or-prototype-requires-clause-place : goal.prototype_or-prototype-requires-clause-place

@@ -3,7 +3,7 @@ use Rattle.std.proofs.lemmas.Result.{err_from_is_err_and}
 use Rattle.mb_frames.specs.Sorts.{AnObject}
 use Rattle.mb_model.specs.Meaning.{finished}
 use Rattle.mb_model.specs.Writing.{Row, is_value}
-use Rattle.mb_reflect.proofs.Doing.{Done, done-object, halted}
+use Rattle.mb_reflect.proofs.Doing.{done-object, halted}
 use Rattle.mb_reflect.proofs.Made.{done-made, new-object, plain-is-made, was-made}
 use Rattle.mb_reflect.proofs.objects.plain_from.Goals as goal
 use Rattle.mb_world.specs.Graph.{Graph}

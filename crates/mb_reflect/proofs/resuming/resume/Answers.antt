@@ -1,9 +1,8 @@
-use Rattle.std.proofs.Common.{Ok, ap, sym}
-use Rattle.mb_call.specs.machine.Resuming.{IsAwaited}
+use Rattle.std.proofs.Common.{Ok}
 use Rattle.mb_frames.proofs.Keeping.{keeps-same, leaves-throw}
 use Rattle.mb_frames.proofs.Passed.{Part-sure}
 use Rattle.mb_frames.proofs.Steps.{Sure-throw}
-use Rattle.mb_frames.specs.Sorts.{reflect_gives, reflect_waits}
+use Rattle.mb_frames.specs.Sorts.{reflect_gives}
 use Rattle.mb_frames.specs.declared.frame.Move.TheVariants as move
 use Rattle.mb_frames.specs.declared.task.Outcome.TheVariants as o
 use Rattle.mb_model.specs.Meaning.{finished}

@@ -4,7 +4,9 @@ use Rattle.mb_frames.proofs.Passed.{Part-sure}
 use Rattle.mb_frames.specs.Resolved.{values_in}
 use Rattle.mb_frames.specs.Sorts.{AValue, run_gives}
 use Rattle.mb_model.specs.BuiltIns.Arguments.{arg}
-use Rattle.mb_model.specs.BuiltIns.ObjectMembers.{get_own_descriptor, get_prototype_of, has_own, is_frozen, object_define_property, object_fn, object_keys, object_set_prototype_of, own_symbols, settle}
+use Rattle.mb_model.specs.BuiltIns.ObjectMembers.{get_own_descriptor, get_prototype_of, has_own, is_frozen}
+use Rattle.mb_model.specs.BuiltIns.ObjectMembers.{object_define_property, object_fn, object_keys}
+use Rattle.mb_model.specs.BuiltIns.ObjectMembers.{object_set_prototype_of, own_symbols, settle}
 use Rattle.mb_reflect.proofs.Argued.{by-one, by-three, by-two}
 use Rattle.mb_reflect.proofs.Given.{passed-held, passed-is}
 use Rattle.mb_reflect.proofs.Placed.{gives-object, gives-value, no-object}

@@ -2,7 +2,9 @@ use Rattle.std.proofs.Common.{arith, ◌≡◌, [], ap, sym, ◌∙◌, ◌∷�
 use Rattle.mb_frames.specs.Resolved.{values_in}
 use Rattle.mb_model.specs.BuiltIns.Arguments.{arg, arg_or}
 use Rattle.mb_model.specs.BuiltIns.ObjectMembers.{get_own_descriptor, get_prototype_of}
-use Rattle.mb_model.specs.BuiltIns.ReflectMembers.{reflect_define, reflect_delete, reflect_get, reflect_has, reflect_is_extensible, reflect_own_keys, reflect_prevent, reflect_set, reflect_set_prototype}
+use Rattle.mb_model.specs.BuiltIns.ReflectMembers.{reflect_define, reflect_delete, reflect_get, reflect_has}
+use Rattle.mb_model.specs.BuiltIns.ReflectMembers.{reflect_is_extensible, reflect_own_keys, reflect_prevent}
+use Rattle.mb_model.specs.BuiltIns.ReflectMembers.{reflect_set, reflect_set_prototype}
 use Rattle.mb_reflect.proofs.Argued.{by-four, by-one, by-three, by-two}
 use Rattle.mb_reflect.proofs.Given.{passed-held, passed-is, passed-or-held, passed-or-is}
 use Rattle.mb_reflect.proofs.Placed.{gives-value, no-reflect}

@@ -1,0 +1,10 @@
+pub mod Constructing
+pub mod Handing
+pub mod Joining
+pub mod Making
+pub mod Membering
+pub mod Passing
+pub mod Placing
+pub mod Ranging
+pub mod Turning
+pub mod Writing

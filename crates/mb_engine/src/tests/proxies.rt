@@ -1,0 +1,381 @@
+// Rows of script-made Proxies. Each text was written by hand, its units by the definitions of the meaning.
+use super::rows::Row;
+
+pub(super) const PROXIES: &[Row] = &[
+    // each trap is called with the handler as this and the target first
+    Row {
+        script: &[
+            "let log = ''; let t = function () {}; let h = {}; let trap = (name, f) => { h[name] = function (a, ",
+            "b, c, d) { log = log + name + (this === h) + (a === t) + ' '; return f(a, b, c, d); }; };\n",
+            "trap('getPrototypeOf', (a) => Reflect.getPrototypeOf(a)); trap('setPrototypeOf', (a, b) => ",
+            "Reflect.setPrototypeOf(a, b)); trap('isExtensible', (a) => Reflect.isExtensible(a)); ",
+            "trap('preventExtensions', (a) => Reflect.preventExtensions(a));\n",
+            "trap('getOwnPropertyDescriptor', (a, b) => Reflect.getOwnPropertyDescriptor(a, b)); ",
+            "trap('defineProperty', (a, b, c) => Reflect.defineProperty(a, b, c)); trap('has', (a, b) => ",
+            "Reflect.has(a, b)); trap('get', (a, b, c) => Reflect.get(a, b, c)); trap('set', (a, b, c, d) => ",
+            "Reflect.set(a, b, c));\n",
+            "trap('deleteProperty', (a, b) => Reflect.deleteProperty(a, b)); trap('ownKeys', (a) => ",
+            "Reflect.ownKeys(a)); trap('apply', (a, b, c) => c.length); trap('construct', (a, b, c) => ({ n: ",
+            "b.length }));\n",
+            "let p = new Proxy(t, h); Reflect.getPrototypeOf(p); Reflect.setPrototypeOf(p, null); ",
+            "Reflect.isExtensible(p); print(log); log = ''; Reflect.getOwnPropertyDescriptor(p, 'x'); ",
+            "Reflect.defineProperty(p, 'x', { value: 1, configurable: true }); Reflect.has(p, 'x'); ",
+            "Reflect.get(p, 'x'); print(log); log = '';\n",
+            "Reflect.set(p, 'y', 2); Reflect.deleteProperty(p, 'y'); Reflect.ownKeys(p); print(p(1, 2, 3)); ",
+            "print(new p(1, 2).n); Reflect.preventExtensions(p); print(log);",
+        ],
+        lines: &[
+            "getPrototypeOftruetrue setPrototypeOftruetrue isExtensibletruetrue ",
+            "getOwnPropertyDescriptortruetrue definePropertytruetrue hastruetrue gettruetrue ",
+            "3",
+            "2",
+            "settruetrue deletePropertytruetrue ownKeystruetrue applytruetrue constructtruetrue preventExtensionstruetrue ",
+        ],
+        units: 1093,
+        at: &[],
+    },
+    // without a trap the target answers
+    Row {
+        script: &[
+            "let show = (f) => { try { return f(); } catch (e) { return e instanceof TypeError ? 'T' : e; } }; ",
+            "let shutting = (o) => { Reflect.preventExtensions(o); return o; };\n",
+            "let one = (h) => { let t = { x: 1 }; let p = new Proxy(t, h); p.y = 2; print(p.x, 'y' in p, t.y, ",
+            "delete p.y, 'y' in t, Object.keys(p).length, Reflect.getPrototypeOf(p) === Object.prototype, ",
+            "Reflect.isExtensible(p), Reflect.preventExtensions(p), Reflect.isExtensible(t)); };\n",
+            "one({}); one({ get: undefined, set: undefined, has: undefined, deleteProperty: undefined, ownKeys: ",
+            "undefined, preventExtensions: undefined }); one({ get: null, set: null, has: null, deleteProperty: ",
+            "null, ownKeys: null, preventExtensions: null });",
+        ],
+        lines: &[
+            "1 true 2 true false 1 true true true false",
+            "1 true 2 true false 1 true true true false",
+            "1 true 2 true false 1 true true true false",
+        ],
+        units: 426,
+        at: &[],
+    },
+    // a trap that cannot be called
+    Row {
+        script: &[
+            "let show = (f) => { try { return f(); } catch (e) { return e instanceof TypeError ? 'T' : e; } }; ",
+            "let shutting = (o) => { Reflect.preventExtensions(o); return o; };\n",
+            "let p = new Proxy(function () {}, { get: 1, set: 's', has: {}, deleteProperty: true, ownKeys: ",
+            "Symbol('k'), apply: [], construct: {}, getPrototypeOf: 0, setPrototypeOf: 0, isExtensible: 0, ",
+            "preventExtensions: 0, getOwnPropertyDescriptor: 0, defineProperty: 0 });\n",
+            "print(show(() => p.x), show(() => { p.x = 1; }), show(() => 'x' in p), show(() => delete p.x), ",
+            "show(() => Reflect.ownKeys(p)), show(() => p()), show(() => new p())); print(show(() => ",
+            "Reflect.getPrototypeOf(p)), show(() => Reflect.setPrototypeOf(p, null)), show(() => ",
+            "Reflect.isExtensible(p)), show(() => Reflect.preventExtensions(p)), show(() => ",
+            "Reflect.getOwnPropertyDescriptor(p, 'x')), show(() => Reflect.defineProperty(p, 'x', {})));",
+        ],
+        lines: &["T T T T T T T", "T T T T T T"],
+        units: 461,
+        at: &[],
+    },
+    // a trap that throws, and a getter of the handler
+    Row {
+        script: &[
+            "let show = (f) => { try { return f(); } catch (e) { return e instanceof TypeError ? 'T' : e; } }; ",
+            "let shutting = (o) => { Reflect.preventExtensions(o); return o; };\n",
+            "let p = new Proxy({}, { get: () => { throw 'g'; }, get has() { throw 'h'; }, set: () => { throw ",
+            "'s'; } }); print(show(() => p.x), show(() => 'x' in p), show(() => { p.x = 1; })); let log = ''; ",
+            "let q = new Proxy({}, { get get() { log = log + '1'; return (t, k) => { log = log + k; return 7; }; ",
+            "} }); print(q.a, q.b, log);",
+        ],
+        lines: &["g h s", "7 7 1a1b"],
+        units: 187,
+        at: &[117, 187],
+    },
+    // a handler with a Proxy as its prototype
+    Row {
+        script: &[
+            "let names = ''; let meta = new Proxy({}, { get: (t, k) => { names = names + k + ' '; return ",
+            "undefined; } }); let h = Object.create(meta); let p = new Proxy({ x: 1 }, h); print(p.x, 'x' in p, ",
+            "delete p.x); print(names);",
+        ],
+        lines: &["1 true true", "get has deleteProperty "],
+        units: 111,
+        at: &[],
+    },
+    // rules of prototypes
+    Row {
+        script: &[
+            "let show = (f) => { try { return f(); } catch (e) { return e instanceof TypeError ? 'T' : e; } }; ",
+            "let shutting = (o) => { Reflect.preventExtensions(o); return o; };\n",
+            "let fixed = shutting({}); let o = Object.prototype; let said; let p = new Proxy({}, { ",
+            "getPrototypeOf: () => said }); let q = new Proxy(fixed, { getPrototypeOf: () => said }); let get = ",
+            "(x, y) => { said = y; return show(() => Reflect.getPrototypeOf(x) === y); };\n",
+            "print(get(p, 1), get(p, undefined), get(p, 'a'), get(p, null), get(p, fixed)); print(get(q, null), ",
+            "get(q, o), get(q, fixed)); let a = new Proxy({}, { setPrototypeOf: () => said }); let b = new ",
+            "Proxy(fixed, { setPrototypeOf: () => said }); let set = (x, y, z) => { said = z; return show(() => ",
+            "Reflect.setPrototypeOf(x, y)); };\n",
+            "print(set(a, null, true), set(a, null, 0), set(b, null, 1), set(b, o, 'yes'), set(b, null, false), ",
+            "set(b, null, ''));",
+        ],
+        lines: &[
+            "T T T true true",
+            "T true T",
+            "true false T true false false",
+        ],
+        units: 727,
+        at: &[],
+    },
+    // rules of extensibility
+    Row {
+        script: &[
+            "let show = (f) => { try { return f(); } catch (e) { return e instanceof TypeError ? 'T' : e; } }; ",
+            "let shutting = (o) => { Reflect.preventExtensions(o); return o; };\n",
+            "let said; let h = { isExtensible: () => said, preventExtensions: () => said }; let p = new Proxy({},",
+            " h); let q = new Proxy(shutting({}), h); let is = (x, y) => { said = y; return show(() => ",
+            "Reflect.isExtensible(x)); }; let end = (x, y) => { said = y; return show(() => ",
+            "Reflect.preventExtensions(x)); };\n",
+            "print(is(p, true), is(p, 1), is(p, false), is(q, true), is(q, 0)); print(end(p, true), end(p, ",
+            "false), end(q, true), end(q, undefined));",
+        ],
+        lines: &["true true T T false", "T false true false"],
+        units: 442,
+        at: &[],
+    },
+    // rules of getOwnPropertyDescriptor
+    Row {
+        script: &[
+            "let show = (f) => { try { return f(); } catch (e) { return e instanceof TypeError ? 'T' : e; } }; ",
+            "let shutting = (o) => { Reflect.preventExtensions(o); return o; };\n",
+            "let said; let h = { getOwnPropertyDescriptor: () => said }; let t = {}; Object.defineProperty(t, ",
+            "'fixed', { value: 1 }); t.loose = 2; let shut = shutting({ x: 1 }); let p = new Proxy(t, h); let q ",
+            "= new Proxy(shut, h);\n",
+            "let own = (x, k, y) => { said = y; return show(() => { let d = Reflect.getOwnPropertyDescriptor(x, ",
+            "k); return d === undefined ? 'none' : String(d.value) + d.writable + d.enumerable + d.configurable; ",
+            "}); };\n",
+            "print(own(p, 'loose', 1), own(p, 'loose', null), own(p, 'loose', undefined), own(p, 'fixed', ",
+            "undefined), own(q, 'x', undefined), own(q, 'y', undefined)); print(own(p, 'loose', { value: 3, ",
+            "configurable: true }), own(p, 'none', { configurable: true }), own(q, 'y', { configurable: true }), ",
+            "own(p, 'loose', { value: 2 }), own(p, 'none', { value: 2 }));\n",
+            "print(own(p, 'fixed', { value: 1 }), own(p, 'fixed', { value: 2 }), own(p, 'fixed', { value: 1, ",
+            "configurable: true }), own(p, 'fixed', { get: 1 }), own(q, 'x', { value: 1, writable: true, ",
+            "enumerable: true, configurable: true }));\n",
+            "Object.defineProperty(t, 'write', { value: 1, writable: true }); print(own(p, 'write', { value: 5, ",
+            "writable: true }), own(p, 'write', { value: 1, writable: false }));",
+        ],
+        lines: &[
+            "T T none T T none",
+            "3falsefalsetrue undefinedfalsefalsetrue T T T",
+            "1falsefalsefalse T T T 1truetruetrue",
+            "5truefalsefalse T",
+        ],
+        units: 1361,
+        at: &[],
+    },
+    // rules of defineProperty
+    Row {
+        script: &[
+            "let show = (f) => { try { return f(); } catch (e) { return e instanceof TypeError ? 'T' : e; } }; ",
+            "let shutting = (o) => { Reflect.preventExtensions(o); return o; };\n",
+            "let said; let h = { defineProperty: () => said }; let t = {}; Object.defineProperty(t, 'fixed', { ",
+            "value: 1 }); Object.defineProperty(t, 'write', { value: 1, writable: true }); t.loose = 2; let p = ",
+            "new Proxy(t, h); let q = new Proxy(shutting({ x: 1 }), h); let def = (x, k, y, z) => { said = z; ",
+            "return show(() => Reflect.defineProperty(x, k, y)); };\n",
+            "print(def(p, 'none', { value: 1, configurable: true }, true), def(p, 'none', { value: 1, ",
+            "configurable: false }, true), def(q, 'y', { value: 1 }, true), def(q, 'y', { value: 1 }, false)); ",
+            "print(def(p, 'loose', { configurable: false }, true), def(p, 'fixed', { value: 1 }, true), def(p, ",
+            "'fixed', { value: 2 }, true), def(p, 'fixed', { value: 2 }, 0)); print(def(p, 'write', { writable: ",
+            "false, configurable: false }, true), def(p, 'write', { value: 9 }, true), show(() => ",
+            "Object.defineProperty(q, 'z', {})));",
+        ],
+        lines: &["true T T false", "T true T false", "T true T"],
+        units: 832,
+        at: &[],
+    },
+];
+
+// The rules on answers, and what a Proxy stands for.
+pub(super) const PROXIES_FURTHER: &[Row] = &[
+    // rules of has and deleteProperty
+    Row {
+        script: &[
+            "let show = (f) => { try { return f(); } catch (e) { return e instanceof TypeError ? 'T' : e; } }; ",
+            "let shutting = (o) => { Reflect.preventExtensions(o); return o; };\n",
+            "let said; let h = { has: () => said, deleteProperty: () => said }; let t = { loose: 1 }; ",
+            "Object.defineProperty(t, 'fixed', { value: 1 }); let p = new Proxy(t, h); let q = new ",
+            "Proxy(shutting({ x: 1 }), h); let has = (x, k, y) => { said = y; return show(() => k in x); }; let ",
+            "del = (x, k, y) => { said = y; return show(() => Reflect.deleteProperty(x, k)); };\n",
+            "print(has(p, 'none', 1), has(p, 'loose', 0), has(p, 'fixed', 0), has(q, 'x', 0), has(q, 'y', 0), ",
+            "has(q, 'y', 1)); print(del(p, 'none', 1), del(p, 'loose', 1), del(p, 'fixed', 1), del(p, 'fixed', ",
+            "0), del(q, 'x', 1), del(q, 'y', 1), 'loose' in t); said = 0; print(show(() => delete p.fixed));",
+        ],
+        lines: &[
+            "true false T T false true",
+            "true true T false T true true",
+            "T",
+        ],
+        units: 654,
+        at: &[],
+    },
+    // rules of get and set
+    Row {
+        script: &[
+            "let show = (f) => { try { return f(); } catch (e) { return e instanceof TypeError ? 'T' : e; } }; ",
+            "let shutting = (o) => { Reflect.preventExtensions(o); return o; };\n",
+            "let said; let h = { get: () => said, set: () => said }; let t = { loose: 1 }; ",
+            "Object.defineProperty(t, 'fixed', { value: 1 }); Object.defineProperty(t, 'deaf', { get: undefined, ",
+            "set: (v) => v }); Object.defineProperty(t, 'mute', { get: () => 1 }); let p = new Proxy(t, h); let ",
+            "get = (k, y) => { said = y; return show(() => p[k]); }; let set = (k, v, y) => { said = y; return ",
+            "show(() => Reflect.set(p, k, v)); };\n",
+            "print(get('loose', 2), get('none', 3), get('fixed', 1), get('fixed', 2), get('deaf', undefined), ",
+            "get('deaf', 1), get('mute', 5)); print(set('loose', 2, 1), set('none', 1, 1), set('fixed', 1, 1), ",
+            "set('fixed', 2, 1), set('fixed', 2, 0), set('deaf', 1, 1), set('mute', 1, 1), t.loose); said = 0; ",
+            "print(show(() => { p.loose = 5; }));",
+        ],
+        lines: &[
+            "2 3 1 T undefined T 5",
+            "true true true T false true T 1",
+            "T",
+        ],
+        units: 751,
+        at: &[],
+    },
+    // rules of ownKeys
+    Row {
+        script: &[
+            "let show = (f) => { try { return f(); } catch (e) { return e instanceof TypeError ? 'T' : e; } }; ",
+            "let shutting = (o) => { Reflect.preventExtensions(o); return o; };\n",
+            "let said; let s = Symbol('s'); let h = { ownKeys: () => said }; let t = { a: 1 }; ",
+            "Object.defineProperty(t, 'f', { value: 1 }); let p = new Proxy(t, h); let q = new Proxy(shutting({ ",
+            "a: 1, b: 2 }), h); let keys = (x, y) => { said = y; return show(() => { let ks = ",
+            "Reflect.ownKeys(x); let r = ''; ks.forEach((k) => { r = r + (typeof k === 'symbol' ? 's' : k) + ',",
+            "'; }); return r; }); };\n",
+            "print(keys(p, ['f']), keys(p, ['z', s, 'f']), keys(p, { length: 2, 0: 'f', 1: 'y' }), keys(p, ",
+            "['a'])); print(keys(p, ['f', 'a', 'f']), keys(p, [1, 'f']), keys(p, [undefined, 'f']), keys(p, 7), ",
+            "keys(p, undefined), keys(p, [{}, 'f'])); print(keys(q, ['b', 'a']), keys(q, ['a']), keys(q, ['a', ",
+            "'b', 'c']), keys(q, ['a', 'a', 'b']));",
+        ],
+        lines: &["f, z,s,f, f,y, T", "T T T T T T", "b,a, T T T"],
+        units: 1129,
+        at: &[],
+    },
+    // what construct gives
+    Row {
+        script: &[
+            "let show = (f) => { try { return f(); } catch (e) { return e instanceof TypeError ? 'T' : e; } }; ",
+            "let shutting = (o) => { Reflect.preventExtensions(o); return o; };\n",
+            "let said; function C() {} let p = new Proxy(C, { construct: (t, xs, n) => said === 'n' ? { n: n === ",
+            "p } : said }); let make = (y) => { said = y; return show(() => typeof new p()); }; print(make({}), ",
+            "make(() => 1), make(1), make(undefined), make(null), make('s')); said = 'n'; print(new p().n); ",
+            "function D() {} print(Reflect.construct(new Proxy(C, {}), [], D) instanceof D);",
+        ],
+        lines: &["object function T T T T", "true", "true"],
+        units: 363,
+        at: &[],
+    },
+    // a Proxy of an array, a function, a constructor and a built-in
+    Row {
+        script: &[
+            "let show = (f) => { try { return f(); } catch (e) { return e instanceof TypeError ? 'T' : e; } }; ",
+            "let shutting = (o) => { Reflect.preventExtensions(o); return o; };\n",
+            "let a = new Proxy([1, 2], {}); a.push(3); print(Array.isArray(a), a.length, a[2], typeof a); let f ",
+            "= new Proxy((x) => x + 1, {}); print(typeof f, f(1), show(() => new f())); function C(x) { this.x = ",
+            "x; } let c = new Proxy(C, {}); print(typeof c, new c(4).x, new c(4) instanceof C, new c(4) ",
+            "instanceof c); let k = new Proxy(Object.keys, {}); print(k({ a: 1, b: 2 }).length, typeof new ",
+            "Proxy({}, {}), show(() => new Proxy({}, {})()));",
+        ],
+        lines: &[
+            "true 3 3 object",
+            "function 2 T",
+            "function 4 true true",
+            "2 object T",
+        ],
+        units: 310,
+        at: &[90, 141, 238, 310],
+    },
+    // what a Proxy is made of
+    Row {
+        script: &[
+            "let show = (f) => { try { return f(); } catch (e) { return e instanceof TypeError ? 'T' : e; } }; ",
+            "let shutting = (o) => { Reflect.preventExtensions(o); return o; };\n",
+            "let p = new Proxy({}, {}); print(show(() => Proxy({}, {})), show(() => new Proxy()), show(() => new ",
+            "Proxy({})), show(() => new Proxy(1, {})), show(() => new Proxy({}, 1)), show(() => new Proxy(p, ",
+            "{})), show(() => new Proxy({}, p) === p)); print(Proxy.length, Proxy.name, typeof Proxy.prototype); ",
+            "let r = Proxy.revocable({}, {}); r.revoke(); print(show(() => new Proxy(r.proxy, {})), show(() => ",
+            "typeof new Proxy({}, r.proxy)));",
+        ],
+        lines: &["T T T T T T false", "2 Proxy undefined", "T object"],
+        units: 303,
+        at: &[],
+    },
+    // a revoked Proxy
+    Row {
+        script: &[
+            "let show = (f) => { try { return f(); } catch (e) { return e instanceof TypeError ? 'T' : e; } }; ",
+            "let shutting = (o) => { Reflect.preventExtensions(o); return o; };\n",
+            "let r = Proxy.revocable([], {}); let f = Proxy.revocable(function () {}, {}); ",
+            "print(Object.keys(r).join(), r.revoke.length, r.revoke.name === '', r.proxy.length); ",
+            "print(r.revoke(), r.revoke(), f.revoke.call(1)); let p = r.proxy; let q = f.proxy;\n",
+            "print(typeof p, typeof q, show(() => p.x), show(() => { p.x = 1; }), show(() => 'x' in p), show(() ",
+            "=> delete p.x), show(() => Reflect.ownKeys(p)), show(() => Array.isArray(p))); print(show(() => ",
+            "q()), show(() => new q()), show(() => Reflect.getPrototypeOf(p)), show(() => ",
+            "Reflect.setPrototypeOf(p, null)), show(() => Reflect.isExtensible(p)), show(() => ",
+            "Reflect.preventExtensions(p)), show(() => Reflect.getOwnPropertyDescriptor(p, 'x')), show(() => ",
+            "Reflect.defineProperty(p, 'x', {})), show(() => ({}) instanceof q));",
+        ],
+        lines: &[
+            "proxy,revoke 0 true 0",
+            "undefined undefined undefined",
+            "object function T T T T T T",
+            "T T T T T T T T T",
+        ],
+        units: 581,
+        at: &[78, 107, 294, 581],
+    },
+    // a trap that revokes its own Proxy or removes itself
+    Row {
+        script: &[
+            "let show = (f) => { try { return f(); } catch (e) { return e instanceof TypeError ? 'T' : e; } }; ",
+            "let shutting = (o) => { Reflect.preventExtensions(o); return o; };\n",
+            "let r = Proxy.revocable({ x: 1 }, { get: (t, k) => { r.revoke(); return t[k]; } }); print(r.proxy.x,",
+            " show(() => r.proxy.x)); let h = { get: (t, k) => { delete h.get; return 'first'; } }; let p = new ",
+            "Proxy({ x: 1 }, h); print(p.x, p.x); let g = { get get() { s.revoke(); return undefined; } }; let s ",
+            "= Proxy.revocable({ x: 2 }, g); print(s.proxy.x, show(() => s.proxy.x));",
+        ],
+        lines: &["1 T", "first 1", "2 T"],
+        units: 185,
+        at: &[],
+    },
+    // a trap that changes its target
+    Row {
+        script: &[
+            "let show = (f) => { try { return f(); } catch (e) { return e instanceof TypeError ? 'T' : e; } }; ",
+            "let shutting = (o) => { Reflect.preventExtensions(o); return o; };\n",
+            "let t = {}; let p = new Proxy(t, { get: (o, k) => { Object.defineProperty(o, k, { value: 1 }); ",
+            "return 2; }, has: (o, k) => { Reflect.preventExtensions(o); return false; }, isExtensible: (o) => { ",
+            "Reflect.preventExtensions(o); return true; }, ownKeys: (o) => { Reflect.preventExtensions(o); ",
+            "return ['a']; } }); print(show(() => p.a)); let q = new Proxy({ a: 1 }, { ownKeys: (o) => { ",
+            "Reflect.preventExtensions(o); return []; }, has: (o, k) => { Reflect.preventExtensions(o); return ",
+            "false; }, isExtensible: (o) => { Reflect.preventExtensions(o); return true; } }); print(show(() => ",
+            "'b' in q), show(() => 'a' in q), show(() => Reflect.ownKeys(q)), show(() => ",
+            "Reflect.isExtensible(q)));",
+        ],
+        lines: &["T", "false T T T"],
+        units: 287,
+        at: &[],
+    },
+    // a Proxy as a prototype and as a receiver
+    Row {
+        script: &[
+            "let log = ''; let p = new Proxy({ x: 1 }, { get: (t, k, r) => { log = log + 'g' + k + (r === o); ",
+            "return t[k]; }, set: (t, k, v, r) => { log = log + 's' + k + (r === o); return Reflect.set(t, k, v, ",
+            "r); }, has: (t, k) => { log = log + 'h' + k; return k in t; } }); let o = Object.create(p); ",
+            "print(o.x, o.y, 'x' in o, 'z' in o); o.w = 3; print(o.w, Object.keys(o).join(), log); let own = ''; ",
+            "let q = new Proxy({}, { defineProperty: (t, k, d) => { own = own + k + Object.keys(d).join(); ",
+            "return Reflect.defineProperty(t, k, d); }, getOwnPropertyDescriptor: (t, k) => { own = own + '?' + ",
+            "k; return Reflect.getOwnPropertyDescriptor(t, k); } }); q.a = 1; q.a = 2; print(own, Reflect.set({},",
+            " 'b', 1, q), own);",
+        ],
+        lines: &[
+            "1 undefined true false",
+            "3 w gxtruegytruehxhzswtrue",
+            "?aavalue,writable,enumerable,configurable?aavalue true ?aavalue,writable,enumerable,configurable?aavalue?bbvalue,writable,enumerable,configurable",
+        ],
+        units: 562,
+        at: &[142, 214, 562],
+    },
+];

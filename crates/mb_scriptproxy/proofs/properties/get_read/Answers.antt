@@ -1,0 +1,31 @@
+use Rattle.std.proofs.Common.{sym, subst, ◌∙◌}
+use Rattle.mb_check.specs.declared.verdict.Verdict.{Verdict}
+use Rattle.mb_frames.specs.Passing.{Part}
+use Rattle.mb_frames.specs.Sorts.{AValue}
+use Rattle.mb_model.specs.Meaning.{finished}
+use Rattle.mb_model.specs.Objects.Proxies.{judge}
+use Rattle.mb_model.specs.Task.{Value}
+use Rattle.mb_scriptproxy.proofs.Verdicts.{get-same}
+use Rattle.mb_scriptproxy.proofs.properties.get_read.Goals as goal
+use Rattle.mb_world.specs.Image.{Resolve, names_of}
+
+pub judged-requires : goal.judged-requires
+judged-requires c =
+    let d = c.args.w.now in
+    let a = c.requires.acts in
+    let h = a.holds in
+    record { acts = record { ready = a.ready; side = a.side; holds = (h.0, tt) } }
+
+pub returns-clause-part : goal.returns-clause-part
+returns-clause-part c = λ f.
+    let d = c.args.w.now in
+    let home = c.args.home in
+    let h = c.requires.acts.holds in
+    subst (λ (z : Verdict). Part home c.judged.result d c.judged.new.w f f
+    (judge home.0 z (Value (Resolve (names_of d) c.args.said)) finished))
+    (c.get.ensures
+    ∙ sym (get-same d c.texts-texts.ensures.distinct c.requires.acts.ready home c.args.said c.args.real h.0 h.1.0))
+    (c.judged.ensures.part f)
+
+pub returns-clause-keeps : goal.returns-clause-keeps
+returns-clause-keeps c = c.judged.ensures.keeps AValue (λ e. tt)

@@ -1,0 +1,5 @@
+pub mod Acting
+pub mod Making
+pub mod Parting
+pub mod Resuming
+pub mod Trapping
