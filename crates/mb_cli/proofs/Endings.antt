@@ -1,13 +1,15 @@
 -- How a task ends, and what follows of it for a call.
-use Rattle.std.proofs.Common.{◌≡◌, ◌≢◌, ◌<◌, ◌≤◌, ℕ, List, [], ◌++◌, Option, Some, None, Bool, true, false, length, refl, sym, ap, ap₂, subst, ◌∙◌, inl, inr, arith}
-use Rattle.std.specs.Prelude.{◌⊎◌, ◌↔◌, IsSome}
-use Rattle.mb_outer.specs.Causes.{IsRaised}
+use Rattle.std.proofs.Common.{◌≡◌, ◌≢◌, ◌≤◌, ℕ, List, [], ◌++◌, Option, Some, None, false, length, refl, sym, ap, ap₂, subst, ◌∙◌, inl, inr, arith}
+use Rattle.std.specs.Prelude.{◌↔◌}
 use Rattle.mb_lexer.specs.Feeding.{Lexing, Fed}
 use Rattle.mb_cli.specs.Sides.{left_side}
 use Rattle.mb_load_tree.specs.Trees.{HasTree}
 use Rattle.mb_cli.specs.Trees.{ScriptFault}
-use Rattle.mb_cli.specs.Serving.{IsOnly, IsAnswer, Receives, PutsFront, IsPut, Leaves, TellsFaults, IsFaultless, HasRoom}
-use Rattle.mb_cli.specs.Tasks.{Task, running, checking, IsThere, PassesCheck, EndsCheck, Ends, Writes, right_line}
+use Rattle.mb_cli.specs.Serving.{IsOnly, IsSomeEnd, IsAnswer, PutsFront, IsPut, Leaves, TellsFaults, IsFaultless, HasRoom}
+use Rattle.mb_story.specs.Running.{Receives}
+use Rattle.mb_world.specs.Data.{Data, fresh}
+use Rattle.mb_model.specs.Text.{Text_of}
+use Rattle.mb_cli.specs.Tasks.{Task, running, sharing, checking, IsEnd, PassesCheck, EndsCheck, Ends, Writes, right_line}
 use Rattle.mb_cli.specs.first_form.Text.{text_of}
 use Rattle.mb_cli.specs.machine.Lines.{IsPrefix}
 use Rattle.mb_cli.specs.machine.Refusals.{status_of}
@@ -20,9 +22,10 @@ use Rattle.mb_cli.specs.declared.tree.TreeFault.TheVariants as tree
 use Rattle.mb_cli.specs.declared.status.ScriptKind.{ScriptKind}
 use Rattle.mb_cli.specs.declared.status.Which.TheVariants.{Script}
 use Rattle.mb_cli.specs.declared.status.Status.{Status}
-use Rattle.mb_cli.specs.declared.status.Status.TheVariants.{Done, BadWords, ReadFault, WriteFault, BadScript, TooLong, NoMemory}
+use Rattle.mb_cli.specs.declared.status.Status.TheVariants.{Done, Uncaught, BadWords, ReadFault, WriteFault, BadScript, Spent, TooLong, NoMemory}
 use Rattle.mb_words.specs.declared.fault.WordsKind.{WordsKind}
 use Rattle.mb_cli.proofs.OneAnswer.{never_both, one_fault}
+use Rattle.mb_cli.proofs.Stories.{ends_by, is_end_by, one_story, shared_once, status_by}
 use Rattle.mb_cli.proofs.first_form.Endings.{run_once, printed_once, printed_ends}
 
 check_once : (script : Option (List ℕ)) (a b : Status) → EndsCheck script a → EndsCheck script b → a ≡ b
@@ -43,6 +46,7 @@ check_once script a b p q = absurd p
 -- a task ends one way
 pub ends_once : (task : Task) (a b : Status) → Ends task a → Ends task b → a ≡ b
 ends_once (running left right) a b p q = run_once left right a b p q
+ends_once (sharing left right word n traced) a b p q = shared_once left right word n a b p q
 ends_once (checking script) a b p q = check_once script a b p q
 
 pub is_only : (task : Task) (status : Status) → Ends task status → IsOnly (Ends task) status
@@ -51,6 +55,8 @@ is_only task status p = record { one = p; only = λ other q. ends_once task othe
 -- a task writes one text
 pub writes_once : (task : Task) (a b : List ℕ) → Writes task a → Writes task b → a ≡ b
 writes_once (running left right) a b p q = printed_once left right a b p q
+writes_once (sharing left right word n traced) a b (s, h, p) (t, k, q) =
+    p ∙ ap (Text_of traced false) (one_story left right word n s t h k) ∙ sym q
 writes_once (checking script) a b p q = p.1 ∙ sym q.1
 
 passed_ends : (script : Option (List ℕ)) → PassesCheck script → EndsCheck script Done
@@ -58,9 +64,15 @@ passed_ends None p = absurd p
 passed_ends (Some bytes) p = p
 
 -- what is written is the text of scripts that are accepted
-pub written_ends : (task : Task) (text : List ℕ) → Writes task text → Ends task Done
-written_ends (running left right) text w = printed_ends left right text w
-written_ends (checking script) text w = passed_ends script w.0
+pub written_ends : (task : Task) (text : List ℕ) → Writes task text → (end : Status) × IsEnd end × Ends task end
+written_ends (running left right) text w = (Done, tt, printed_ends left right text w)
+written_ends (sharing left right word n traced) text (s, h, p) =
+    (status_by s.ending, is_end_by s.ending, ends_by left right word n s.ending (s, h, refl))
+written_ends (checking script) text w = (Done, tt, passed_ends script w.0)
+
+-- a run whose put fails would have ended
+pub some_end : (task : Task) → IsOnly (Ends task) Done → IsSomeEnd (Ends task)
+some_end task only = record { end = Done; whole = tt; only = only }
 
 -- a refusal is none of the statuses of a run or of the words
 pub not_done : (r : Refusal) → status_of r ≢ Done
@@ -99,16 +111,19 @@ refused_put task (refusal.Script s k) P receives p = p
 refused_put task (refusal.TooLong w) P receives p = p
 refused_put task refusal.NoMemory P receives p = inl p
 
-pub refused_leaves : (r : Refusal) (halted : Bool) (P : Type 0) → P → Leaves (status_of r) halted P
-refused_leaves refusal.ReadFault halted P p = p
-refused_leaves (refusal.Script s k) halted P p = p
-refused_leaves (refusal.TooLong w) halted P p = p
-refused_leaves refusal.NoMemory halted P p = λ e. p
+pub refused_leaves : (r : Refusal) (world : Data) (P : Type 0) → world ≡ fresh → P → Leaves (status_of r) world P
+refused_leaves refusal.ReadFault world P w p = (w, p)
+refused_leaves (refusal.Script s k) world P w p = (w, p)
+refused_leaves (refusal.TooLong long) world P w p = (w, p)
+refused_leaves refusal.NoMemory world P w p = inr (w, p)
 
 -- the counts of faults
 
 pub no_put : (r : Refusal) (count : ℕ) → TellsFaults WriteFault (status_of r) count count
 no_put r count = record { later = omega arith; cause = λ e. absurd (not_write_fault r e); told = λ lt. absurd (omega (arith, lt)) }
+
+pub refused_faultless : (r : Refusal) (count : ℕ) → IsFaultless WriteFault (status_of r) count count
+refused_faultless r count = record { count = refl; answer = not_write_fault r }
 
 -- the command `check`
 
@@ -141,27 +156,47 @@ room_enough task (Some room) lines (text, written, fits) writes =
 
 -- answers come exactly where the scripts give them
 
-pub done_exact : (task : Task) (answer : Status) → IsAnswer task answer → answer ≢ ReadFault → answer ≢ WriteFault → answer ≢ NoMemory → (answer ≡ Done) ↔ Ends task Done
-done_exact task Done a r w m = (λ e. a.one, λ ends. refl)
-done_exact task WriteFault a r w m = absurd (w refl)
-done_exact task (BadScript s k) a r w m = (λ e. subst (Ends task) e a.one, λ ends. sym (a.only Done ends))
-done_exact task (TooLong v) a r w m = (λ e. subst (Ends task) e a.one, λ ends. sym (a.only Done ends))
-done_exact task (BadWords kind) a r w m = absurd a
-done_exact task ReadFault a r w m = absurd (r refl)
-done_exact task NoMemory a r w m = absurd (m refl)
+only_exact : (P : Status → Type 0) (answer given : Status) → IsOnly P answer → (answer ≡ given) ↔ P given
+only_exact P answer given a = (λ e. subst P e a.one, λ ends. sym (a.only given ends))
 
-pub exact : (task : Task) (answer given : Status) → IsAnswer task answer → answer ≢ ReadFault → answer ≢ NoMemory → given ≢ Done → given ≢ WriteFault
-    → (answer ≡ given) ↔ Ends task given
-exact task Done given a r m d w = (λ e. absurd (d (sym e)), λ ends. sym (a.only given ends))
-exact task WriteFault given a r m d w = (λ e. absurd (w (sym e)), λ ends. absurd (d (a.only given ends)))
-exact task (BadScript s k) given a r m d w = (λ e. subst (Ends task) e a.one, λ ends. sym (a.only given ends))
-exact task (TooLong v) given a r m d w = (λ e. subst (Ends task) e a.one, λ ends. sym (a.only given ends))
+pub whole_exact : (task : Task) (answer given : Status) → IsAnswer task answer → IsEnd given → answer ≢ ReadFault
+    → answer ≢ WriteFault → answer ≢ NoMemory → (answer ≡ given) ↔ Ends task given
+whole_exact task Done given a is r w m = only_exact (Ends task) Done given a
+whole_exact task Uncaught given a is r w m = only_exact (Ends task) Uncaught given a
+whole_exact task Spent given a is r w m = only_exact (Ends task) Spent given a
+whole_exact task WriteFault given a is r w m = absurd (w refl)
+whole_exact task (BadScript s k) given a is r w m = only_exact (Ends task) (BadScript s k) given a
+whole_exact task (TooLong v) given a is r w m = only_exact (Ends task) (TooLong v) given a
+whole_exact task (BadWords kind) given a is r w m = absurd a
+whole_exact task ReadFault given a is r w m = absurd (r refl)
+whole_exact task NoMemory given a is r w m = absurd (m refl)
+
+pub exact : (task : Task) (answer given : Status) → IsAnswer task answer → answer ≢ ReadFault → answer ≢ NoMemory
+    → (IsEnd given → ⊥) → given ≢ WriteFault → (answer ≡ given) ↔ Ends task given
+exact task Done given a r m d w = only_exact (Ends task) Done given a
+exact task Uncaught given a r m d w = only_exact (Ends task) Uncaught given a
+exact task Spent given a r m d w = only_exact (Ends task) Spent given a
+exact task WriteFault given a r m d w =
+    (λ e. absurd (w (sym e)), λ ends. absurd (d (subst IsEnd (sym (a.only.only given ends)) a.whole)))
+exact task (BadScript s k) given a r m d w = only_exact (Ends task) (BadScript s k) given a
+exact task (TooLong v) given a r m d w = only_exact (Ends task) (TooLong v) given a
 exact task (BadWords kind) given a r m d w = absurd a
 exact task ReadFault given a r m d w = absurd (r refl)
 exact task NoMemory given a r m d w = absurd (m refl)
 
-pub ends_written : (task : Task) → Ends task Done → (text : List ℕ) × Writes task text
-ends_written (running left right) ends =
+abbrev Text : Task → Type 0
+Text task = (text : List ℕ) × Writes task text
+
+pub ends_written : (task : Task) (end : Status) → IsEnd end → Ends task end → Text task
+ends_written (running left right) Done is ends =
     (text_of ends.0.0 ends.1.0, record { lefts = ends.0.0; rights = ends.1.0; left_prints = ends.0.1; right_prints = ends.1.1; text_is = refl })
-ends_written (checking None) ends = absurd ends
-ends_written (checking (Some bytes)) ends = (right_line, (ends, refl))
+ends_written (running left right) Uncaught is ends = absurd ends
+ends_written (running left right) Spent is ends = absurd ends
+ends_written (sharing left right word n traced) Done is (s, h, e) = (Text_of traced false s, (s, h, refl))
+ends_written (sharing left right word n traced) Uncaught is (s, h, e) = (Text_of traced false s, (s, h, refl))
+ends_written (sharing left right word n traced) Spent is (s, h, e) = (Text_of traced false s, (s, h, refl))
+ends_written (checking None) Done is ends = absurd ends
+ends_written (checking (Some bytes)) Done is ends = (right_line, (ends, refl))
+ends_written (checking script) Uncaught is ends = absurd ends
+ends_written (checking script) Spent is ends = absurd ends
+ends_written task end is ends = absurd is

@@ -1,8 +1,15 @@
+pub mod Asked
 pub mod Endings
+pub mod Letters
 pub mod OneAnswer
+pub mod OneProgram
 pub mod PartsRead
+pub mod Programs
+pub mod Reading
 pub mod Refusals
 pub mod RulesRenamed
+pub mod Runs
+pub mod Stories
 pub mod Tables
 pub mod Texts
 pub mod Tokens

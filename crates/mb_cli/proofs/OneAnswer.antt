@@ -34,7 +34,7 @@ use Rattle.mb_cli.proofs.RulesRenamed.{breaks_renamed}
 
 -- one list of bytes over two tables
 
-script_renamed : (f : StrId → StrId) (ts : List Spanned) (tree : Rose) → IsScript ts tree → IsScript (renamed_tokens f ts) (renamed f tree)
+pub script_renamed : (f : StrId → StrId) (ts : List Spanned) (tree : Rose) → IsScript ts tree → IsScript (renamed_tokens f ts) (renamed f tree)
 script_renamed f ts tree s = record {
   parts = renamed_all f s.parts;
   stand = subst (λ n. Statements (renamed_tokens f ts) (renamed_all f s.parts) 0 n) (sym (length-map ts (renamed_spanned f))) (statements_renamed f ts s.stand);
@@ -48,7 +48,7 @@ tokens_over bytes A B ts us p q =
 script_over : (bytes : List ℕ) (A B : List (List ℕ)) (us : List Spanned) (a : Rose) → Parses A bytes a → AreTokens B bytes us → IsScript us (renamed (moved A B) a)
 script_over bytes A B us a p q = subst (λ ts. IsScript ts (renamed (moved A B) a)) (tokens_over bytes A B p.tokens us p.are q) (script_renamed (moved A B) p.tokens a p.script)
 
-tree_over : (bytes : List ℕ) (A B : List (List ℕ)) (a b : Rose) → Parses A bytes a → Parses B bytes b → renamed (moved A B) a ≡ b
+pub tree_over : (bytes : List ℕ) (A B : List (List ℕ)) (a b : Rose) → Parses A bytes a → Parses B bytes b → renamed (moved A B) a ≡ b
 tree_over bytes A B a b p q = one_script q.tokens (renamed (moved A B) a) b (script_over bytes A B q.tokens a p q.are) q.script
 
 height_over : (bytes : List ℕ) (A B : List (List ℕ)) (a b : Rose) → Parses A bytes a → Parses B bytes b → height_of a ≡ height_of b

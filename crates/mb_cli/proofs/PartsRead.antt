@@ -11,7 +11,7 @@ use Rattle.mb_outer.specs.declared.library.Start.TheVariants as start
 use Rattle.mb_outer.specs.declared.library.Got.TheVariants as got
 use Rattle.mb_cli.specs.Tasks.{behind}
 use Rattle.mb_lexer.specs.Feeding.{Lexing, Fed}
-use Rattle.mb_cli.specs.machine.Scanned.{IsFed, IsScanned}
+use Rattle.mb_cli.specs.machine.Scanned.{IsScanned}
 
 -- where the library tells its texts, the text of the name is what was read, and then what is left
 pub record IsRead (shelf : Shelf) (name : List ℕ) (rest : Option (List ℕ)) (text : List ℕ) : Type 0 where

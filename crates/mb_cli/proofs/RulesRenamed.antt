@@ -31,7 +31,7 @@ flat_map-map before after h each [] = refl
 flat_map-map before after h each (x ∷ xs) = ap₂ (λ a b. a ++ b) (each x) (flat_map-map before after h each xs) ∙ sym (map-append h (before x) (flat_map before xs))
 
 module _ (f : StrId → StrId) where
-  abbrev renamed_binding : Binding → Binding
+  abbrev pub renamed_binding : Binding → Binding
   renamed_binding b = record { node = b.node; name = f b.name; fixed = b.fixed }
 
   module _ (shapes : List Shape) where
@@ -68,7 +68,7 @@ module _ (f : StrId → StrId) where
     bound_by_renamed : (id : NodeId) → bound_by others id ≡ map renamed_binding (bound_by shapes id)
     bound_by_renamed id = ap (bound_at others id) (node_there id.0) ∙ bound_at_renamed id (slice_get shapes id.0)
 
-    bindings_renamed : (parts : List NodeId) → bindings_of others parts ≡ map renamed_binding (bindings_of shapes parts)
+    pub bindings_renamed : (parts : List NodeId) → bindings_of others parts ≡ map renamed_binding (bindings_of shapes parts)
     bindings_renamed parts = flat_map-map (bound_by shapes) (bound_by others) renamed_binding bound_by_renamed parts
 
     parts_renamed : (node : Option Shape) → parts_in (option_map (renamed_shape f) node) ≡ parts_in node

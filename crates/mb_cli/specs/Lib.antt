@@ -1,6 +1,7 @@
 pub mod ExitCode
 pub mod Serving
 pub mod Settings
+pub mod Sharing
 pub mod Sides
 pub mod Tasks
 pub mod Trees

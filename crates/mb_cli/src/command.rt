@@ -1,66 +1,38 @@
 // One call of the program.
-ghost use Rattle.std.specs.Prelude.{◌≡◌, ◌≢◌, ◌↔◌, Some, Err, IsTrue, IfOk, map, string_bytes};
-ghost use Rattle.std.specs.List.{concat};
-ghost use Rattle.mb_outer.specs.Shelf.{Shelf};
+ghost use Rattle.std.specs.Prelude.{◌≡◌, ◌≢◌, ◌↔◌, Err, IsTrue, map, string_bytes};
 ghost use Rattle.mb_words.specs.declared.fault.WordsKind.{WordsKind};
-ghost use Rattle.mb_cli.specs.Serving.{IsAnswer, IsPut, Receives, Leaves, TellsFaults, IsFaultless, HasRoom, OnRead};
+ghost use Rattle.mb_story.specs.Running.{Receives};
+ghost use Rattle.mb_cli.specs.Serving.{IsAnswer, IsPut, IsTold, Leaves, TellsFaults, IsFaultless, HasRoom, OnRead};
 ghost use Rattle.mb_cli.specs.Settings.{settings_of};
 ghost use Rattle.mb_world.specs.Data.{fresh};
-ghost use Rattle.mb_cli.specs.Tasks.{OnTask, IsThere, Writes, left_of, task_of};
-ghost use Rattle.mb_cli.specs.machine.Commands.{meant_by};
-ghost use Rattle.mb_cli.specs.machine.Lines.{contents_of};
-ghost use Rattle.mb_cli.specs.machine.Refusals.{ending};
+ghost use Rattle.mb_cli.specs.Tasks.{OnTask, IsThere, left_of};
 
-use crate::check::check_lines;
-use crate::first_form::run_lines;
-use crate::puts::put_lines;
-use crate::refusal::Refusal;
+use crate::list::list;
+use crate::shared::share;
 use crate::status::Status;
 use crate::words::{Command, command_of};
-use mb_outer::{Library, Put, Sink};
+use mb_engine::Driver;
+use mb_outer::{Library, Sink};
 use mb_words::WordsFault;
 use mb_world::World;
 use std::alloc::Global;
 
-// The lines that a command puts.
-fn command_lines<L: Library>(
-    alloc: Global,
-    command: &Command,
-    library: &mut L,
-) -> Result<Vec<Vec<u8>>, Refusal>
-    ensures shelf { L.shelf library.new ≡ L.shelf library.old }
-    ensures sound { IsTrue (L.sound library.old) → IsTrue (L.sound library.new) }
-    ensures answer { (s : Shelf) → L.shelf library.old ≡ Some s
-        → IsAnswer (task_of s (meant_by command.now)) (ending result) }
-    ensures lines { (s : Shelf) → L.shelf library.old ≡ Some s
-        → IfOk result (λ lines. Writes (task_of s (meant_by command.now)) (concat (contents_of lines.items))) }
-    ensures reads { TellsFaults Status.ReadFault (ending result) (L.faults library.old) (L.faults library.new) }
-    ensures faultless { (s : Shelf) → L.shelf library.old ≡ Some s
-        → IsThere (task_of s (meant_by command.now)) → IsTrue (L.sound library.old)
-        → IsFaultless Status.ReadFault (ending result) (L.faults library.old) (L.faults library.new) }
-    ensures read { (s : Shelf) → L.shelf library.old ≡ Some s
-        → OnRead (ending result) (L.rest library.new ≡ left_of (task_of s (meant_by command.now))) }
-{
-    match command {
-        Command::Run { left, right } => run_lines(alloc, left.as_str(), right.as_str(), library),
-        Command::Check { file } => check_lines(alloc, file.as_str(), library),
-    }
-}
-
-/// Runs one command. `run LEFT RIGHT` runs two scripts of the first form, which are read from the library by these
-/// names, and puts what they print, those of the left script first. `check FILE` tells whether a script has a tree: it
-/// is judged as a left one. Each line is put with its line feed by one put.
+/// Runs one command. `shared LEFT RIGHT` runs two scripts on one graph, which are read from the library by these names,
+/// and puts what they print and how that ended. `run LEFT RIGHT` runs two scripts of the first form, and puts what they
+/// print, those of the left script first. `check FILE` tells whether a script has a tree: it is judged as a left one.
+/// Each line is put with its line feed by one put; `shared` puts it after the turn that made it.
 ///
-/// `words` are those behind the program's name. A refusal is answered in this order: the words, a fault of the left
-/// read, of the right read, the left script, the right script. Of a script no more is read than one byte
-/// behind what it may have: 65,536 bytes for `run`, 1,048,576 for `check`.
-/// The world is left as the run ended: halted where the run broke off.
-pub fn serve<L: Library, K: Sink>(
+/// `words` are those behind the program's name. A refusal is answered in this order: the words, a fault or too great a
+/// length of the left read, of the right read, the left script, the right script. Of a script no more is read than one
+/// byte behind what it may have: 65,536 bytes for `run`, 1,048,576 for `shared` and `check`.
+/// The turns are made by the driver. The world is left as the run ended: halted where it was spent or broke off.
+pub fn serve<L: Library, K: Sink, D: Driver>(
     alloc: Global,
     words: &[String],
     library: &mut L,
     sink: &mut K,
     world: &mut World,
+    driver: &mut D,
 ) -> Status
     requires fresh { world.old ≡ fresh }
 
@@ -70,12 +42,14 @@ pub fn serve<L: Library, K: Sink>(
     ensures unread { (kind : WordsKind) → result ≡ Status.BadWords kind
         → library.new ≡ library.old }
 
-    // The answer, what was put, and the world.
+    // The answer, what was put, and the world with its turns.
     ensures answer { OnTask (L.shelf library.old) words.now (λ task. IsAnswer task result) }
     ensures text { OnTask (L.shelf library.old) words.now
         (λ task. IsPut task result (sink.new ≡ sink.old)
         (Receives (K.taken sink.old) (K.taken sink.new))) }
-    ensures world { Leaves result world.new.halted (sink.new ≡ sink.old) }
+    ensures world { Leaves result world.new (sink.new ≡ sink.old) }
+    ensures told { OnTask (L.shelf library.old) words.now
+        (λ task. IsTold task result world.new (D.ran driver.old) (D.ran driver.new)) }
 
     // Faults have a cause, and none is passed over.
     ensures reads { TellsFaults Status.ReadFault result
@@ -98,15 +72,8 @@ pub fn serve<L: Library, K: Sink>(
         Err(WordsFault::Refused(kind)) => return Status::BadWords(kind),
         Err(WordsFault::NoMemory) => return Status::NoMemory,
     };
-    let lines = match command_lines(alloc, &command, library) {
-        Ok(lines) => lines,
-        Err(refusal) => return Status::from(refusal),
-    };
-    match put_lines(&lines, sink) {
-        Put::All => Status::Done,
-        Put::Failed => {
-            world.halt();
-            Status::WriteFault
-        }
+    match &command {
+        Command::List(listing) => list(alloc, listing, library, sink, world),
+        Command::Share(sharing) => share(alloc, sharing, library, sink, world, driver),
     }
 }

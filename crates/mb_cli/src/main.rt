@@ -1,13 +1,16 @@
-//! `membrane`: runs two scripts, each on a side of its own, and prints what they print, or checks one.
+//! `membrane`: runs two scripts, each on a side of its own or both on one graph, and prints what they print, or checks
+//! one.
 #![tactic(auto)]
 
 mod check;
 mod command;
 mod first_form;
 mod laws;
+mod list;
 mod pieces;
 mod puts;
 mod refusal;
+mod shared;
 mod status;
 #[cfg(test)]
 mod tests;
@@ -19,10 +22,11 @@ pub use first_form::{
     literals_are_unique, scripts_of_the_first_form_have_a_tree, tokens_are_unique,
 };
 pub use laws::{
-    a_script_has_a_tree_or_a_fault, a_script_has_one_fault, a_task_ends_one_way, answers_are_exact,
-    never_a_tree_and_a_fault,
+    a_script_has_a_tree_or_a_fault, a_script_has_one_fault, a_script_has_one_program,
+    a_task_ends_one_way, answers_are_exact, never_a_tree_and_a_fault,
 };
 use mb_base::Side;
+use mb_engine::Straight;
 use mb_outer::{FileLibrary, WriteSink};
 use mb_words::WordsKind;
 pub use mb_world::World;
@@ -71,7 +75,7 @@ fn name_of(side: Side) -> &'static str {
 // The complaint of a status, where it has one.
 fn complaint_of(status: Status) -> Option<Complaint> {
     match status {
-        Status::Done => None,
+        Status::Done | Status::Uncaught | Status::Spent => None,
         Status::BadWords(WordsKind::Usage) => Some(Complaint::Usage),
         Status::BadWords(WordsKind::Schedule { at }) => Some(Complaint::Schedule { at }),
         Status::BadWords(WordsKind::Budget) => Some(Complaint::Budget),
@@ -111,7 +115,14 @@ fn served(rt: &HostRuntime) -> Status {
     };
     let mut library = FileLibrary::new(rt);
     let mut sink = WriteSink::new(std::io::writer(rt));
-    serve(rt.alloc(), &words, &mut library, &mut sink, &mut world)
+    serve(
+        rt.alloc(),
+        &words,
+        &mut library,
+        &mut sink,
+        &mut world,
+        &mut Straight,
+    )
 }
 
 fn main(rt: HostRuntime) -> ExitCode {

@@ -2,7 +2,7 @@
 ghost use Rattle.std.specs.Prelude.{◌≡◌, ◌≢◌, ◌≤◌, Err, Some, IsSome, IsTrue, IfOk, IfSome, option_map};
 ghost use Rattle.mb_outer.specs.Causes.{IsRaised};
 ghost use Rattle.mb_outer.specs.Shelf.{Shelf, held};
-ghost use Rattle.mb_text.specs.Texts.{AreDistinct};
+ghost use Rattle.mb_text.specs.Texts.{AreDistinct, KeepsIds};
 ghost use Rattle.mb_cli.specs.Tasks.{behind};
 ghost use Rattle.mb_cli.specs.machine.Scanned.{IsFed, IsScanned};
 
@@ -23,6 +23,7 @@ pub fn scan<L: Library>(
     ensures sound { IsTrue (L.sound library.old) → IsTrue (L.sound library.new) }
     ensures script { (s : Shelf) → L.shelf library.old ≡ Some s → IfOk result (IsScanned texts.new (held name.now s)) }
     ensures fed { IfOk result (λ script. IfSome script (IsFed texts.new)) }
+    ensures ids { KeepsIds texts.old texts.new }
     ensures distinct { AreDistinct texts.old → AreDistinct texts.new }
     ensures read { (s : Shelf) → L.shelf library.old ≡ Some s
         → IfOk result (λ _. L.rest library.new ≡ option_map (behind 1_048_577) (held name.now s)) }

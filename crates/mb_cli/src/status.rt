@@ -52,8 +52,10 @@ pub enum Which {
 /// How a call of [`serve`](crate::serve) ended.
 #[derive(Clone, Copy, Debug, PartialEq, Eq)]
 pub enum Status {
-    /// The whole text was put.
+    /// The whole text was put, and no script threw what none caught.
     Done,
+    /// The whole text was put; in some turn a script threw what none caught.
+    Uncaught,
     /// The words are refused, or ask for what the program can't do yet.
     BadWords(WordsKind),
     /// A text wasn't there, or couldn't be read to its end.
@@ -62,6 +64,8 @@ pub enum Status {
     WriteFault,
     /// The script of that side is refused.
     BadScript { side: Side, kind: ScriptKind },
+    /// A charge was above what was left of the budget; the whole text was put.
+    Spent,
     /// That text has too many bytes.
     TooLong(Which),
     /// Memory ran out.
@@ -75,10 +79,12 @@ impl Status {
     {
         match self {
             Status::Done => 0,
+            Status::Uncaught => 1,
             Status::BadWords(_) => 2,
             Status::ReadFault => 3,
             Status::WriteFault => 4,
             Status::BadScript { .. } => 5,
+            Status::Spent => 7,
             Status::TooLong(_) => 8,
             Status::NoMemory => 9,
         }

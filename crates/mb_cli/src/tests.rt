@@ -1,9 +1,14 @@
 // Rows of `serve` over a shelf, and a sink in memory.
+mod crossing;
 mod faults;
+mod hostile;
+mod refused;
 mod scripts;
+mod sharing;
 
 use crate::{ScriptKind, Status, World, serve};
 use mb_base::{NoMemory, Side};
+use mb_engine::{Driver, Straight};
 use mb_outer::{ShelfLibrary, ShelfSink};
 use mb_words::WordsKind;
 use std::alloc::{AllocError, Global};
@@ -40,6 +45,8 @@ struct Call<'a> {
 const RUN: [&str; 3] = ["run", "l", "r"];
 
 const CHECK: [&str; 2] = ["check", "l"];
+
+const SHARED: [&str; 3] = ["shared", "l", "r"];
 
 const FIRST: Call<'static> = Call {
     left: b"print(1);",
@@ -86,6 +93,16 @@ fn list_of<T: Drop>(alloc: Global, item: Option<T>) -> Result<Vec<T>, AllocError
 }
 
 fn called(alloc: Global, words: &[&str], call: Call<'_>) -> Result<Ended, NoMemory> {
+    called_by(alloc, words, call, &mut Straight)
+}
+
+// The call, with this driver for its turns.
+fn called_by<D: Driver>(
+    alloc: Global,
+    words: &[&str],
+    call: Call<'_>,
+    driver: &mut D,
+) -> Result<Ended, NoMemory> {
     let words = words_of(alloc, words)?;
     let shelf = shelf_of(alloc, call.left, call.right)?;
     let failing_calls = list_of(alloc, call.failing_call)?;
@@ -93,7 +110,7 @@ fn called(alloc: Global, words: &[&str], call: Call<'_>) -> Result<Ended, NoMemo
     let mut library = ShelfLibrary::new(shelf, call.piece.max(1), failing_calls);
     let mut sink = ShelfSink::new(alloc, call.room, failing_puts)?;
     let mut world = World::new(alloc)?;
-    let status = serve(alloc, &words, &mut library, &mut sink, &mut world);
+    let status = serve(alloc, &words, &mut library, &mut sink, &mut world, driver);
     let halted = world.halted();
     Ok(Ended {
         status,
@@ -117,4 +134,24 @@ fn ends(
         }
         Err(_) => false,
     }
+}
+
+// A call over these scripts ends so, with this text, and leaves the world halted where it is spent.
+fn shares(
+    alloc: Global,
+    words: &[&str],
+    left: &str,
+    right: &str,
+    status: Status,
+    text: &str,
+) -> bool {
+    let call = Call {
+        left: left.as_bytes(),
+        right: right.as_bytes(),
+        piece: 100,
+        room: 2_000,
+        ..FIRST
+    };
+    let halted = status == Status::Spent;
+    ends(alloc, words, call, status, halted, text.as_bytes())
 }

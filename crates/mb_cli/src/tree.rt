@@ -1,12 +1,14 @@
 // The tree of a script.
-ghost use Rattle.std.specs.Prelude.{◌≡◌, ◌≤◌, ℕ, List, [], Err, IfOk, OnOk, length};
+ghost use Rattle.std.specs.Prelude.{◌≡◌, ◌<◌, ◌≤◌, ◌^◌, ℕ, List, [], Err, IfOk, OnOk, length};
 ghost use Rattle.mb_tree.specs.Roses.{Rose, shapes, write};
 ghost use Rattle.mb_scope.specs.Names.{names_of};
 ghost use Rattle.mb_text.specs.Texts.{AreDistinct, KeepsIds};
 ghost use Rattle.mb_cli.specs.declared.status.ScriptKind.{ScriptKind as Kind};
 ghost use Rattle.mb_lexer.specs.Feeding.{Fed};
+ghost use Rattle.mb_world.specs.Data.{script_of};
 ghost use Rattle.mb_load_tree.specs.Trees.{AreTokens, ReadsAs, HasTree};
 ghost use Rattle.mb_cli.specs.Trees.{ScriptFault};
+ghost use Rattle.mb_cli.specs.machine.Pairs.{IsRead};
 ghost use Rattle.mb_cli.specs.machine.Scanned.{IsFed};
 
 use crate::status::ScriptKind;
@@ -79,6 +81,7 @@ fn program_of(alloc: Global, tokens: &[Spanned]) -> Result<Program, TreeFault>
     ensures tree { (texts : List (List ℕ)) (bytes : List ℕ) → AreTokens texts bytes tokens.now
         → IfOk result (λ program. (tree : Rose) × (shapes program.tree ≡ write [] tree) × ReadsAs texts bytes tree) }
     ensures names { IfOk result (λ program. program.scopes ≡ names_of (shapes program.tree)) }
+    ensures few { IfOk result (λ program. length (shapes program.tree) < 2 ^ 32) }
     ensures fault { (texts : List (List ℕ)) (bytes : List ℕ) (kind : Kind) → AreTokens texts bytes tokens.now
         → result ≡ Err (TreeFault.Bad kind) → ScriptFault bytes kind }
 {
@@ -104,12 +107,16 @@ pub fn read_tree(alloc: Global, bytes: &[u8], texts: &mut Texts) -> Result<Progr
 }
 
 // The tree of a script that was read in pieces.
-fn finish_tree(alloc: Global, lexer: Lexer, texts: &mut Texts) -> Result<Program, TreeFault>
+pub fn finish_tree(alloc: Global, lexer: Lexer, texts: &mut Texts) -> Result<Program, TreeFault>
     requires fed { IsFed texts.old lexer }
     requires distinct { AreDistinct texts.old }
     ensures tree { (bytes : List ℕ) → Fed lexer texts.old bytes → OnOk result (HasTree bytes) }
+    ensures read { (bytes : List ℕ) → Fed lexer texts.old bytes
+        → IfOk result (λ program. IsRead texts.new bytes (script_of program)) }
     ensures fault { (bytes : List ℕ) (kind : Kind) → Fed lexer texts.old bytes
         → result ≡ Err (TreeFault.Bad kind) → ScriptFault bytes kind }
+    ensures ids { KeepsIds texts.old texts.new }
+    ensures distinct { AreDistinct texts.new }
 {
     let tokens = lexer.finish(texts)?;
     program_of(alloc, &tokens)

@@ -1,11 +1,10 @@
 -- How `run` ends by two scripts of the first form.
-use Rattle.std.proofs.Common.{◌≡◌, ◌<◌, ◌≤◌, ℕ, List, Option, Some, None, length, refl, sym, ap, ap₂, subst, ◌∙◌, inl, inr, arith}
+use Rattle.std.proofs.Common.{◌≡◌, ◌<◌, ◌≤◌, ℕ, List, Option, Some, None, length, refl, sym, ap₂, subst, ◌∙◌, inl, inr, arith}
 use Rattle.std.specs.Prelude.{◌⊎◌, IsSome}
 use Rattle.std.proofs.lemmas.Option.{none-some}
 use Rattle.mb_base.specs.declared.value.Side.{Side}
 use Rattle.mb_cli.specs.Sides.{left_side, right_side}
 use Rattle.mb_load_tree.specs.Trees.{HasTree}
-use Rattle.mb_cli.specs.Trees.{ScriptFault}
 use Rattle.mb_cli.specs.first_form.Form.{Literal, HasLiterals, longest}
 use Rattle.mb_cli.specs.first_form.Prints.{Prints, IsPrinted, IsNotRun, faulty, other_form, too_long, EndsRun, Printed}
 use Rattle.mb_cli.specs.first_form.Text.{text_of}

@@ -1,6 +1,6 @@
 use Rattle.std.proofs.Common.{ap}
 use Rattle.std.specs.Prelude.{Err}
-use Rattle.mb_cli.proofs.Endings.{passes, passed_answer, faulty_answer, long_answer}
+use Rattle.mb_cli.proofs.Endings.{passes, passed_answer, faulty_answer}
 use Rattle.mb_cli.proofs.check.lines_judged.Goals as goal
 
 pub returns-in_ok-lines_of_a_right_script-in-Ok-clause-answer : goal.returns-in_ok-lines_of_a_right_script-in-Ok-clause-answer

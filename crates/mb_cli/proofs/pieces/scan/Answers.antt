@@ -3,6 +3,7 @@ use Rattle.std.proofs.lemmas.List.{length-take}
 use Rattle.std.specs.Prelude.{IsSome}
 use Rattle.mb_outer.specs.Causes.{Gets}
 use Rattle.mb_outer.specs.declared.library.Got.TheVariants as got
+use Rattle.mb_text.proofs.Kept.{keeps_ids_more}
 use Rattle.mb_cli.proofs.PartsRead.{at_more, scanned_whole, scanned_long, left_whole, left_long, buffer_length}
 use Rattle.mb_cli.proofs.pieces.scan.Goals as goal
 
@@ -46,6 +47,7 @@ loop-lexer-preserved g c =
       shelf = c.read.ensures.same ∙ c.loop-lexer.invariant.shelf;
       sound = λ h. c.read.ensures.sound (c.loop-lexer.invariant.sound h);
       faults = c.in-Bytes.ensures.cause ∙ c.loop-lexer.invariant.faults;
+      ids = keeps_ids_more c.args.texts.now c.loop-lexer.texts c.feed.new.texts c.loop-lexer.invariant.ids c.feed.ensures.texts;
       distinct = λ h. c.feed.ensures.distinct (c.loop-lexer.invariant.distinct h);
       read = at_more (g.L.Library.shelf c.args.library.now) c.args.name.now (g.L.Library.rest c.loop-lexer.library) (g.L.Library.rest c.read.new.self)
           c.loop-lexer.texts c.feed.new.texts c.loop-lexer.lexer c.feed.new.self c.read.new.into piece c.in-Bytes.count

@@ -1,7 +1,6 @@
-use Rattle.std.proofs.Common.{◌≡◌, ◌≤◌, ◌-◌, Some}
+use Rattle.std.proofs.Common.{◌≡◌, ◌≤◌, ◌-◌}
 use Rattle.std.specs.Prelude.{IsTrue}
-use Rattle.mb_text.specs.Texts.{AreDistinct}
-use Rattle.mb_outer.specs.Shelf.{Shelf}
+use Rattle.mb_text.specs.Texts.{AreDistinct, KeepsIds}
 use Rattle.mb_cli.proofs.PartsRead.{IsAt}
 use Rattle.mb_cli.proofs.pieces.scan.Given as goal
 
@@ -11,6 +10,7 @@ invariant-loop-lexer g l = record {
   shelf : g.L.Library.shelf l.library ≡ g.L.Library.shelf l.fn.library;
   sound : IsTrue (g.L.Library.sound l.fn.library) → IsTrue (g.L.Library.sound l.library);
   faults : g.L.Library.faults l.library ≡ g.L.Library.faults l.fn.library;
+  ids : KeepsIds l.fn.texts l.texts;
   distinct : AreDistinct l.fn.texts → AreDistinct l.texts;
   read : IsAt (g.L.Library.shelf l.fn.library) l.name (g.L.Library.rest l.library) l.texts l.lexer;
 }

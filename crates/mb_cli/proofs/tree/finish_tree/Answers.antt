@@ -1,6 +1,7 @@
 use Rattle.std.proofs.Common.{arith, ap, length}
 use Rattle.mb_cli.proofs.Tokens.{few_tokens, are_tokens}
 use Rattle.mb_cli.proofs.Refusals.{made_of, by_lexer, has_tree}
+use Rattle.mb_cli.proofs.Programs.{is_read}
 use Rattle.mb_cli.proofs.tree.finish_tree.Goals as goal
 
 pub returns-in_err-tokens-clause-fault : goal.returns-in_err-tokens-clause-fault
@@ -22,3 +23,9 @@ pub returns-clause-fault : goal.returns-clause-fault
 returns-clause-fault c bytes kind fed is =
     c.program_of.ensures.fault c.finish.new.texts bytes kind
     (are_tokens c.finish.new.texts bytes c.in_ok-tokens.tokens.items c.deref.result.now (c.in_ok-tokens.ensures.answer bytes fed).tokens c.deref.ensures.value (c.in_ok-tokens.ensures.distinct c.requires.distinct)) is
+
+pub returns-clause-read : goal.returns-clause-read
+returns-clause-read c bytes fed =
+    is_read c.finish.new.texts bytes c.program_of.result (c.program_of.ensures.tree c.finish.new.texts bytes
+    (are_tokens c.finish.new.texts bytes c.in_ok-tokens.tokens.items c.deref.result.now (c.in_ok-tokens.ensures.answer bytes fed).tokens c.deref.ensures.value (c.in_ok-tokens.ensures.distinct c.requires.distinct)))
+    c.program_of.ensures.names c.program_of.ensures.few

@@ -1,8 +1,7 @@
-use Rattle.std.proofs.Common.{◌≡◌, ◌≤◌, length, ap, subst, sym, arith, List}
+use Rattle.std.proofs.Common.{◌≤◌, length, ap, subst, arith, List}
 use Rattle.std.specs.Prelude.{Err}
 use Rattle.mb_cli.specs.first_form.Form.{Literal, HasLiterals}
 use Rattle.mb_cli.specs.first_form.Prints.{faulty}
-use Rattle.mb_cli.specs.declared.first_form.script.FormFault.TheVariants as form
 use Rattle.mb_cli.proofs.first_form.Endings.{by_form}
 use Rattle.mb_cli.proofs.Refusals.{made_of}
 use Rattle.mb_cli.proofs.first_form.run.literals_of.Goals as goal

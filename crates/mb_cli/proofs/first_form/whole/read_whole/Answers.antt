@@ -1,10 +1,9 @@
-use Rattle.std.proofs.Common.{◌≡◌, ◌++◌, ◌+◌, ◌<◌, ◌≤◌, ◌-◌, List, ℕ, take, length, length-append, arith, ◌∙◌, vec_len, refl, ap, sym, subst}
+use Rattle.std.proofs.Common.{◌≡◌, ◌++◌, ◌+◌, ◌<◌, ◌-◌, List, ℕ, take, length, length-append, arith, ◌∙◌, refl, ap, sym, subst}
 use Rattle.std.proofs.lemmas.List.{length-take}
 use Rattle.std.specs.Prelude.{IsSome}
 use Rattle.mb_lexer.specs.Feeding.{Fed}
 use Rattle.mb_outer.specs.Causes.{Gets}
 use Rattle.mb_outer.specs.declared.library.Got.TheVariants as got
-use Rattle.mb_cli.specs.Tasks.{behind}
 use Rattle.mb_cli.proofs.PartsRead.{IsRead, read_more, read_ended, read_long, rest_at_end, rest_of_long, buffer_length}
 use Rattle.mb_cli.proofs.first_form.Endings.{whole_long}
 use Rattle.mb_cli.proofs.first_form.whole.read_whole.Goals as goal

@@ -1,4 +1,4 @@
-use Rattle.mb_cli.proofs.command.command_lines.Goals as goal
+use Rattle.mb_cli.proofs.list.command_lines.Goals as goal
 
 pub returns-in-Run-clause-lines : goal.returns-in-Run-clause-lines
 returns-in-Run-clause-lines g c s told =

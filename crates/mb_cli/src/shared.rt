@@ -1,0 +1,6 @@
+// The command `shared`: two scripts on one graph.
+mod letters;
+mod pair;
+mod share;
+
+pub use share::share;

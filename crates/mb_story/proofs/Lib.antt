@@ -1,0 +1,11 @@
+pub mod Numbered
+pub mod Logs
+pub mod Lines
+pub mod Putting
+pub mod Told
+pub mod Leading
+pub mod Jobs
+pub mod Turning
+pub mod Going
+pub mod Whole
+pub mod Leaving
